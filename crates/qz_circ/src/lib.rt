@@ -1,13 +1,15 @@
-// A library with one function.
+//! Circuits over Nam's gates: their order and ranks, the bounds of a generation, lists of classes, and the
+//! definitions of what circuits mean and when two are equivalent.
 #![tactic(auto)]
 
-ghost use Rattle.std.specs.Prelude.{◌≡◌};
-ghost use Rattle.qz_circ.specs.Echo.{echo_of};
+pub mod bound;
+pub mod circuit;
+pub mod class_list;
+pub mod fault;
+pub mod step_count;
 
-// The `ensures` clause is the contract: what `echo` returns is `echo_of` of its argument, a definition
-// in `specs/Echo.antt`, which a caller's clause can cite too.
-pub fn echo(x: usize) -> usize
-    ensures { result ≡ echo_of x }
-{
-    x
-}
+pub use bound::Bounds;
+pub use circuit::{Expr, Op};
+pub use class_list::Classes;
+pub use fault::{LimitFault, Memory, Which};
+pub use step_count::Steps;

@@ -1,0 +1,44 @@
+-- Gates and circuits, and which of them are within bounds.
+use Rattle.std.specs.Prelude.{ℕ, ◌+◌, ◌-◌, ◌≤◌, ◌==◌, not, List, [], ◌++◌, map, filter, length, Contains}
+use Rattle.std.specs.List.{range_with_len, flat_map, AllByRecursion}
+use Rattle.qz_circ.specs.declared.circuit.Expr.{Expr}
+use Rattle.qz_circ.specs.declared.circuit.Expr.TheVariants.{Const, Plus, Minus, Sum}
+use Rattle.qz_circ.specs.declared.circuit.Op.{Op}
+use Rattle.qz_circ.specs.declared.circuit.Op.TheVariants.{H, X, Cx, Rz}
+
+-- what bounds a circuit: at most n gates on the qubits below q, with the parameters below m
+pub record Limits : Type 0 where
+  pub n : ℕ
+  pub q : ℕ
+  pub m : ℕ
+
+-- gates from left to right, as they are applied
+abbrev pub Circuit : Type 0
+Circuit = List Op
+
+-- the numbers below n, rising
+abbrev pub below : ℕ → List ℕ
+below n = range_with_len 0 n
+
+-- the numbers above i and below n, rising
+abbrev pub between : ℕ → ℕ → List ℕ
+between i n = range_with_len (i + 1) (n - (i + 1))
+
+-- the angles of rules with m parameters, in order: the constants, the parameters, their negatives, the sums of two
+unfoldable pub angles : ℕ → List Expr
+angles m =
+    map Const (range_with_len 1 7) ++ map Plus (below m) ++ map Minus (below m) ++
+    flat_map (λ i. map (Sum i) (between i m)) (below m)
+
+-- the gates within the limits, in order: all H by qubit, all X by qubit, all CX by control and then target,
+-- all rotations by qubit and then angle
+unfoldable pub gates_of : Limits → List Op
+gates_of b =
+    map H (below b.q) ++ map X (below b.q) ++
+    flat_map (λ c. map (Cx c) (filter (λ t. not (t == c)) (below b.q))) (below b.q) ++
+    flat_map (λ t. map (Rz t) (angles b.m)) (below b.q)
+
+-- the circuit has at most n gates, each of them one of the gates within the limits
+pub record Within (b : Limits) (c : Circuit) : Type 0 where
+  pub short : length c ≤ b.n
+  pub gates : AllByRecursion (Contains (gates_of b)) c

@@ -1,0 +1,19 @@
+-- When two circuits are equivalent: equal as matrices up to a monomial of absolute value 1, which may hold parameters.
+use Rattle.std.specs.Prelude.{◌≡◌, ℕ, ◌^◌, ◌<◌}
+use Rattle.qz_circ.specs.Circuit.{Circuit}
+use Rattle.qz_circ.specs.Exponent.{Exponent, IsExponent, minus}
+use Rattle.qz_circ.specs.Paths.{Ways, paths, count, root2, halves}
+
+-- the ways through the circuit, times √2 for each H of another one
+unfoldable pub scaled : ℕ → Circuit → Circuit → Ways
+scaled q c other i j = root2 (halves other) (paths q c i j)
+
+-- x is the monomial with exponent u times y: between every two states each exponent has the same count in x
+-- as the exponent less u has in y
+pub record SameUpTo (q : ℕ) (u : Exponent) (x y : Ways) : Type 0 where
+  pub phase : IsExponent u
+  pub counts : (i j : ℕ) (e : Exponent) → i < 2 ^ q → j < 2 ^ q → IsExponent e → count (x i j) e ≡ count (y i j) (minus e u)
+
+-- some monomial takes the second circuit on q qubits to the first
+abbrev pub Equivalent : ℕ → Circuit → Circuit → Type 0
+Equivalent q a c = (u : Exponent) × SameUpTo q u (scaled q a c) (scaled q c a)

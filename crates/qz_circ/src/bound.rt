@@ -1,0 +1,117 @@
+//! The bounds of a generation: how many gates, qubits and parameters its circuits may have.
+ghost use Rattle.std.specs.Prelude.{◌≡◌, ◌≤◌, ◌+◌, ◌*◌, ◌↔◌, IsOk, IfOk, IfErr, Some, length};
+ghost use Rattle.qz_circ.specs.Circuit.{gates_of};
+ghost use Rattle.qz_circ.specs.Bounds.{refusal, gate_count, IsLawful};
+ghost use Rattle.qz_circ.specs.Order.{all_circuits};
+
+use crate::fault::LimitFault;
+use std::marker::Model;
+
+/// At most n gates on q qubits with m parameters: q is 1, 2 or 3, n is at most 6 and m at most 3, and there are
+/// at most 8,000,000 circuits of n gates.
+#[derive(Clone, Copy, Debug, PartialEq, Eq)]
+pub struct Bounds {
+    n: u64,
+    q: u64,
+    m: u64,
+}
+
+impl Model for Bounds {
+    ghost use Rattle.qz_circ.specs.Circuit.{Limits};
+    ghost use Rattle.qz_circ.specs.Bounds.{IsLawful};
+
+    ghost Value = { Limits };
+
+    ghost view = { λ b. record { n = b.n; q = b.q; m = b.m } };
+
+    ghost invariant = { λ b. IsLawful (record { n = b.n; q = b.q; m = b.m }) };
+
+    ghost inverse = { λ b. record { n = b.n; q = b.q; m = b.m } };
+}
+
+// How many gates there are on q qubits with m parameters.
+fn count_gates(q: u64, m: u64) -> u64
+    requires qubits { q ≤ 3 }
+    requires params { m ≤ 3 }
+    ensures { (n : _) → result ≡ gate_count (record { n = n; q = q; m = m }) }
+{
+    let pairs = if m == 3 {
+        3
+    } else if m == 2 {
+        1
+    } else {
+        0
+    };
+    let angles = 7 + 2 * m + pairs;
+    q * (1 + q + angles)
+}
+
+impl Bounds {
+    /// The bounds with these numbers, or the first of them that is refused.
+    pub fn new(n: u64, q: u64, m: u64) -> Result<Bounds, LimitFault>
+        ensures accepted { IfOk result (λ b. b ≡ record { n = n; q = q; m = m }) }
+        ensures lawful { IsOk result ↔ IsLawful (record { n = n; q = q; m = m }) }
+        ensures refused { IfErr result (λ fault. refusal (record { n = n; q = q; m = m }) ≡ Some fault) }
+    {
+        if q < 1 || q > 3 {
+            return Err(LimitFault::Qubits);
+        }
+        if n > 6 {
+            return Err(LimitFault::Gates);
+        }
+        if m > 3 {
+            return Err(LimitFault::Params);
+        }
+        if count_gates(q, m).pow(n as u32) > 8_000_000 {
+            return Err(LimitFault::Circuits);
+        }
+        Ok(Bounds { n, q, m })
+    }
+
+    /// The greatest number of gates of a circuit, from 0 to 6.
+    pub fn n(&self) -> u64
+        ensures value { result ≡ self.now.n }
+        ensures lawful { IsLawful self.now }
+    {
+        self.n
+    }
+
+    /// The number of qubits, from 1 to 3.
+    pub fn q(&self) -> u64
+        ensures value { result ≡ self.now.q }
+        ensures lawful { IsLawful self.now }
+    {
+        self.q
+    }
+
+    /// The number of parameters, from 0 to 3.
+    pub fn m(&self) -> u64
+        ensures value { result ≡ self.now.m }
+        ensures lawful { IsLawful self.now }
+    {
+        self.m
+    }
+
+    /// The number of gates within the bounds, from 9 to 60.
+    pub fn gates(&self) -> u64
+        ensures value { result ≡ gate_count self.now }
+        ensures lawful { IsLawful self.now }
+    {
+        count_gates(self.q, self.m)
+    }
+
+    /// The number of circuits within the bounds, fewer than 9,000,000.
+    pub fn circuits(&self) -> u64
+        ensures value { result ≡ length (all_circuits self.now) }
+        ensures few { result ≤ 9000000 }
+    {
+        let gates = self.gates();
+        let mut longest = 1;
+        let mut all = 1;
+        for _ in 0..self.n {
+            longest *= gates;
+            all += longest;
+        }
+        all
+    }
+}

@@ -1,0 +1,27 @@
+//! Gates of rewrite rules. A circuit is a list of them, applied from left to right.
+
+/// The angle of a rotation in a rule. The order of angles is the derived one.
+#[derive(Clone, Copy, Debug, PartialEq, Eq, PartialOrd, Ord)]
+pub enum Expr {
+    /// A number from 1 to 7, of eighths of a full turn (π/4).
+    Const(u8),
+    /// The parameter with this number, from 0 on.
+    Plus(u8),
+    /// The negative of the parameter with this number.
+    Minus(u8),
+    /// The sum of two parameters, the smaller number first.
+    Sum(u8, u8),
+}
+
+/// A gate of Nam's gate set, on qubits that are numbered from 0. The order of gates is the derived one.
+#[derive(Clone, Copy, Debug, PartialEq, Eq, PartialOrd, Ord)]
+pub enum Op {
+    /// The Hadamard gate.
+    H(u8),
+    /// The NOT gate.
+    X(u8),
+    /// NOT of the second qubit where the first is 1.
+    Cx(u8, u8),
+    /// Multiplies by e^(iθ) where the qubit is 1, with θ the angle.
+    Rz(u8, Expr),
+}
