@@ -1,5 +1,5 @@
 -- What limits are refused for, and how many gates and circuits are within them.
-use Rattle.std.specs.Prelude.{◌≡◌, ℕ, ◌+◌, ◌*◌, ◌^◌, suc, zero, nat_lt, ◌||◌, length, if◌then◌else◌, Option, Some, None}
+use Rattle.std.specs.Prelude.{◌≡◌, ℕ, ◌^◌, nat_lt, ◌||◌, length, if◌then◌else◌, Option, Some, None}
 use Rattle.qz_circ.specs.declared.fault.LimitFault.{LimitFault}
 use Rattle.qz_circ.specs.declared.fault.LimitFault.TheVariants.{Qubits, Gates, Params, Circuits}
 use Rattle.qz_circ.specs.Circuit.{Limits, gates_of}
@@ -11,11 +11,6 @@ most_circuits = 8000000
 -- how many gates are within the limits
 unfoldable pub gate_count : Limits → ℕ
 gate_count b = length (gates_of b)
-
--- how many circuits of each length up to n are within the limits, added up
-abbrev pub circuits_up_to : ℕ → ℕ → ℕ
-circuits_up_to gates zero = 1
-circuits_up_to gates (suc n) = circuits_up_to gates n + gates ^ suc n
 
 -- the first of these that applies: q isn't 1, 2 or 3; n is over 6; m is over 3; there are too many circuits of n gates
 unfoldable pub refusal : Limits → Option LimitFault

@@ -1,5 +1,5 @@
 //! The bounds of a generation: how many gates, qubits and parameters its circuits may have.
-ghost use Rattle.std.specs.Prelude.{◌≡◌, ◌≤◌, ◌+◌, ◌*◌, ◌↔◌, IsOk, IfOk, IfErr, Some, length};
+ghost use Rattle.std.specs.Prelude.{◌≡◌, ℕ, ◌≤◌, ◌+◌, ◌*◌, ◌↔◌, IsOk, IfOk, IfErr, Some, length};
 ghost use Rattle.qz_circ.specs.Circuit.{gates_of};
 ghost use Rattle.qz_circ.specs.Bounds.{refusal, gate_count, IsLawful};
 ghost use Rattle.qz_circ.specs.Order.{all_circuits};
@@ -33,17 +33,31 @@ impl Model for Bounds {
 fn count_gates(q: u64, m: u64) -> u64
     requires qubits { q ≤ 3 }
     requires params { m ≤ 3 }
-    ensures { (n : _) → result ≡ gate_count (record { n = n; q = q; m = m }) }
+    ensures count { (n : ℕ) → result ≡ gate_count (record { n = n; q = q; m = m }) }
+    ensures few { result ≤ 60 }
 {
-    let pairs = if m == 3 {
-        3
-    } else if m == 2 {
-        1
-    } else {
-        0
-    };
-    let angles = 7 + 2 * m + pairs;
+    let angles = 7 + 2 * m + m * m.saturating_sub(1) / 2;
     q * (1 + q + angles)
+}
+
+// The first of these numbers that is refused, if any.
+#[tactic(auto, using(std::proofs::lemmas::Bool::Decides::nat_tests), unfolding(crate::specs::Bounds::refusal))]
+fn refused(n: u64, q: u64, m: u64) -> Option<LimitFault>
+    ensures { result ≡ refusal (record { n = n; q = q; m = m }) }
+{
+    if q < 1 || q > 3 {
+        return Some(LimitFault::Qubits);
+    }
+    if n > 6 {
+        return Some(LimitFault::Gates);
+    }
+    if m > 3 {
+        return Some(LimitFault::Params);
+    }
+    if count_gates(q, m).pow(n as u32) > 8_000_000 {
+        return Some(LimitFault::Circuits);
+    }
+    None
 }
 
 impl Bounds {
@@ -53,19 +67,10 @@ impl Bounds {
         ensures lawful { IsOk result ↔ IsLawful (record { n = n; q = q; m = m }) }
         ensures refused { IfErr result (λ fault. refusal (record { n = n; q = q; m = m }) ≡ Some fault) }
     {
-        if q < 1 || q > 3 {
-            return Err(LimitFault::Qubits);
+        match refused(n, q, m) {
+            Some(fault) => Err(fault),
+            None => Ok(Bounds { n, q, m }),
         }
-        if n > 6 {
-            return Err(LimitFault::Gates);
-        }
-        if m > 3 {
-            return Err(LimitFault::Params);
-        }
-        if count_gates(q, m).pow(n as u32) > 8_000_000 {
-            return Err(LimitFault::Circuits);
-        }
-        Ok(Bounds { n, q, m })
     }
 
     /// The greatest number of gates of a circuit, from 0 to 6.
