@@ -1,5 +1,5 @@
 -- Gates and circuits, and which of them are within bounds.
-use Rattle.std.specs.Prelude.{ℕ, ◌+◌, ◌-◌, ◌≤◌, ◌==◌, not, List, [], ◌++◌, map, filter, length, Contains}
+use Rattle.std.specs.Prelude.{◌≢◌, ℕ, ◌+◌, ◌-◌, ◌<◌, ◌≤◌, ◌==◌, not, List, [], ◌++◌, map, filter, length, Contains}
 use Rattle.std.specs.List.{range_with_len, flat_map, AllByRecursion}
 use Rattle.qz_circ.specs.declared.circuit.Expr.{Expr}
 use Rattle.qz_circ.specs.declared.circuit.Expr.TheVariants.{Const, Plus, Minus, Sum}
@@ -42,3 +42,28 @@ gates_of b =
 pub record Within (b : Limits) (c : Circuit) : Type 0 where
   pub short : length c ≤ b.n
   pub gates : AllByRecursion (Contains (gates_of b)) c
+
+-- the gate acts on qubits below q, and on two different ones where it acts on two
+abbrev pub ActsBelow : ℕ → Op → Type 0
+ActsBelow q (H t) = t < q
+ActsBelow q (X t) = t < q
+ActsBelow q (Cx c t) = (c < q) × (t < q) × (c ≢ t)
+ActsBelow q (Rz t e) = t < q
+
+-- the angle has only parameters below k, and two different ones where it is a sum
+abbrev pub AngleHasBelow : ℕ → Expr → Type 0
+AngleHasBelow k (Const t) = Unit {0}
+AngleHasBelow k (Plus i) = i < k
+AngleHasBelow k (Minus i) = i < k
+AngleHasBelow k (Sum i j) = (i < k) × (j < k) × (i ≢ j)
+
+-- the gate has only parameters below k; where k is 0 it has none
+abbrev pub HasBelow : ℕ → Op → Type 0
+HasBelow k (H t) = Unit {0}
+HasBelow k (X t) = Unit {0}
+HasBelow k (Cx c t) = Unit {0}
+HasBelow k (Rz t e) = AngleHasBelow k e
+
+-- each gate acts on qubits below q and has only parameters below k
+abbrev pub IsOn : ℕ → ℕ → Circuit → Type 0
+IsOn q k c = AllByRecursion (λ g. ActsBelow q g × HasBelow k g) c

@@ -1,6 +1,6 @@
 //! A list of classes of equivalent circuits, each a list of ranks within some bounds.
-ghost use Rattle.std.specs.Prelude.{◌≡◌, ◌<◌, [], ◌∷◌, ◌++◌, length, All, slice_get, Some, OnOk, OnErr};
-ghost use Rattle.qz_circ.specs.Order.{all_circuits};
+ghost use Rattle.std.specs.Prelude.{◌≡◌, ◌<◌, [], ◌∷◌, ◌++◌, length, slice_get, Some, OnOk, OnErr};
+ghost use Rattle.qz_circ.specs.ClassLists.{AreRanks};
 
 use crate::bound::Bounds;
 use crate::fault::Memory;
@@ -16,12 +16,14 @@ pub struct Classes {
 }
 
 impl Model for Classes {
-    ghost use Rattle.qz_circ.specs.ClassLists.{ClassLists};
-    ghost use Rattle.std.specs.Prelude.{map};
+    ghost use Rattle.std.specs.Prelude.{map, All};
+    ghost use Rattle.qz_circ.specs.ClassLists.{ClassLists, AreRanks};
 
     ghost Value = { ClassLists };
 
     ghost view = { λ c. record { bounds = c.bounds; lists = map (λ list. list.items) c.lists.items } };
+
+    ghost invariant = { λ c. All (λ list. AreRanks c.bounds list.items) c.lists.items };
 }
 
 impl Classes {
@@ -53,14 +55,15 @@ impl Classes {
     /// The list with this number, counted from 0.
     pub fn class(&self, i: u64) -> &[u64]
         requires { i < length self.now.lists }
-        ensures { slice_get self.now.lists i ≡ Some result.now }
+        ensures list { slice_get self.now.lists i ≡ Some result.now }
+        ensures ranks { AreRanks self.now.bounds result.now }
     {
         self.lists[i as usize].as_slice()
     }
 
     /// Appends a list of ranks within the bounds. After an error nothing has changed.
     pub fn push(&mut self, list: &[u64]) -> Result<(), Memory>
-        requires { All (λ r. r < length (all_circuits self.old.bounds)) list.now }
+        requires { AreRanks self.old.bounds list.now }
         ensures ok { OnOk result (self.new ≡ record self.old { lists = self.old.lists ++ list.now ∷ [] }) }
         ensures err { OnErr result (self.new ≡ self.old) }
     {
