@@ -41,13 +41,13 @@ unfolding all_circuits gate_count
 length-all_circuits b = omega (arith, length_of_lengths (gates_of b) 0 (suc b.n), ap (shorter (length (gates_of b))) (zero-add (suc b.n)))
 
 -- with nine gates or more to choose from, there are not many more shorter circuits than those of the greatest length
-pub shorter_few : (gates n : ℕ) → 9 ≤ gates → 8 * shorter gates (suc n) ≤ 9 * gates ^ n
-shorter_few gates zero h = omega arith
+pub shorter_few : (gates n : ℕ) → 9 ≤ gates → 8 * shorter gates (suc n) < 9 * gates ^ n
+shorter_few gates zero h = omega (arith, pow-zero gates)
 shorter_few gates (suc n) h =
     let few = shorter_few gates n h in
     let more : 9 * gates ^ n ≤ gates * gates ^ n = omega (arith, mul-le-mul_right (gates ^ n) h) in
     omega (arith, few, more, pow-succ' gates n)
 
--- the number of circuits within limits is at most nine eighths of the number of those of the greatest length
-pub few_circuits : (gates n most : ℕ) → 9 ≤ gates → gates ^ n ≤ 8 * most → shorter gates (suc n) ≤ 9 * most
+-- the number of circuits within limits is below nine eighths of the number of those of the greatest length
+pub few_circuits : (gates n most : ℕ) → 9 ≤ gates → gates ^ n ≤ 8 * most → shorter gates (suc n) < 9 * most
 few_circuits gates n most h few = omega (arith, shorter_few gates n h)

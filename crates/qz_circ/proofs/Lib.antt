@@ -1,2 +1,3 @@
 pub mod BoundsLemmas
 pub mod CircuitLists
+pub mod ClassLaws

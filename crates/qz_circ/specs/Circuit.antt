@@ -1,4 +1,4 @@
--- Gates and circuits, and which of them are within bounds.
+-- Gates and circuits, and which of them are within limits.
 use Rattle.std.specs.Prelude.{◌≢◌, ℕ, ◌+◌, ◌-◌, ◌<◌, ◌≤◌, ◌==◌, not, List, [], ◌++◌, map, filter, length, Contains}
 use Rattle.std.specs.List.{range_with_len, flat_map, AllByRecursion}
 use Rattle.qz_circ.specs.declared.circuit.Expr.{Expr}

@@ -1,5 +1,6 @@
 -- Representatives, kept circuits and the class list.
-use Rattle.std.specs.Prelude.{◌≡◌, ℕ, ◌-◌, ◌<◌, ◌⊎◌, ◌↔◌, List, [], length, take, drop, filter, nat_lt, slice_index, slice_index_or, IsTrue, Contains}
+use Rattle.std.specs.Prelude.{◌≡◌, ℕ, ◌-◌, ◌⊎◌, ◌↔◌, List, [], length, take, drop, filter, nat_lt, IsTrue, Contains}
+use Rattle.std.specs.List.{AllZip}
 use Rattle.std.specs.List.Sorted.{IsStrictlyIncreasing}
 use Rattle.qz_circ.specs.Circuit.{Circuit, Limits, Within}
 use Rattle.qz_circ.specs.Equivalence.{Equivalent}
@@ -35,13 +36,11 @@ pub record IsRepresentativeRank (b : Limits) (r : ℕ) : Type 0 where
 
 -- s is the rank of a kept circuit that is equivalent to the representative with rank r
 pub record IsMemberRank (b : Limits) (r s : ℕ) : Type 0 where
-  pub circuit : Circuit
-  pub representative : IsRepresentative b circuit
-  pub ranked : rank b circuit ≡ r
+  pub representative : IsRepresentativeRank b r
   pub member : Circuit
   pub kept : IsKept b member
-  pub member_ranked : rank b member ≡ s
-  pub equivalent : Equivalent b.q member circuit
+  pub ranked : rank b member ≡ s
+  pub equivalent : Equivalent b.q member representative.circuit
 
 -- For each representative in order, the kept circuits that are equivalent to it, in order, as ranks.
 -- Lists of one circuit are left out.
@@ -49,6 +48,5 @@ pub record IsClassList (b : Limits) (classes : List (List ℕ)) : Type 0 where
   pub representatives : List ℕ
   pub lists : List (List ℕ)
   pub each_representative : ListsExactly (IsRepresentativeRank b) representatives
-  pub one_each : length lists ≡ length representatives
-  pub each_list : (k : ℕ) → k < length representatives → ListsExactly (IsMemberRank b (slice_index representatives k)) (slice_index_or lists k [])
+  pub each_list : AllZip (λ r list. ListsExactly (IsMemberRank b r) list) representatives lists
   pub several : classes ≡ filter (λ list. nat_lt 1 (length list)) lists

@@ -1,4 +1,5 @@
--- When two circuits are equivalent: equal as matrices up to a monomial of absolute value 1, which may hold parameters.
+-- When two circuits are equivalent: they are the same unitary up to a monomial, which may hold parameters.
+-- Each H owes a factor 1/√2. So that no root divides, each circuit is taken times √2 for each H of the other.
 use Rattle.std.specs.Prelude.{◌≡◌, ℕ, ◌^◌, ◌<◌}
 use Rattle.qz_circ.specs.Circuit.{Circuit}
 use Rattle.qz_circ.specs.Exponent.{Exponent, IsExponent, minus}

@@ -1,32 +1,36 @@
 -- Steps between circuits by a list of classes, and circuits that are joined by steps.
-use Rattle.std.specs.Prelude.{◌≡◌, ℕ, ◌-◌, ◌≤◌, List, [], ◌∷◌, ◌++◌, length, slice_get, Some, Contains}
+use Rattle.std.specs.Prelude.{◌≡◌, ℕ, ◌-◌, ◌≤◌, List, [], ◌∷◌, ◌++◌, map, length, slice_get, Some, Contains}
 use Rattle.std.specs.List.{AllByRecursion}
 use Rattle.qz_circ.specs.Circuit.{Circuit, Limits}
 use Rattle.qz_circ.specs.Order.{circuit_at}
 
--- a contiguous part that is a member of a class is replaced by another member of that class; members are ranks within b
-pub record Step (b : Limits) (classes : List (List ℕ)) (x y : Circuit) : Type 0 where
+-- the classes as lists of circuits, where they are given as lists of ranks within b
+abbrev pub circuits_of_ranks : Limits → List (List ℕ) → List (List Circuit)
+circuits_of_ranks b classes = map (map (circuit_at b)) classes
+
+-- a contiguous part that is a member of a class is replaced by a member of that class, perhaps by the same one
+pub record Step (classes : List (List Circuit)) (x y : Circuit) : Type 0 where
   pub front : Circuit
   pub back : Circuit
-  pub members : List ℕ
-  pub old : ℕ
-  pub new : ℕ
+  pub members : List Circuit
+  pub old : Circuit
+  pub new : Circuit
   pub is_class : Contains classes members
   pub old_member : Contains members old
   pub new_member : Contains members new
-  pub before : x ≡ front ++ circuit_at b old ++ back
-  pub after : y ≡ front ++ circuit_at b new ++ back
+  pub before : x ≡ front ++ old ++ back
+  pub after : y ≡ front ++ new ++ back
 
 -- each next circuit is a step from the one before
-abbrev pub AreSteps : Limits → List (List ℕ) → List Circuit → Type 0
-AreSteps b classes [] = Unit {0}
-AreSteps b classes (x ∷ []) = Unit {0}
-AreSteps b classes (x ∷ y ∷ rest) = Step b classes x y × AreSteps b classes (y ∷ rest)
+abbrev pub AreSteps : List (List Circuit) → List Circuit → Type 0
+AreSteps classes [] = Unit {0}
+AreSteps classes (x ∷ []) = Unit {0}
+AreSteps classes (x ∷ y ∷ rest) = Step classes x y × AreSteps classes (y ∷ rest)
 
 -- a list of circuits of at most n gates leads from x to y by steps
-pub record Joined (b : Limits) (classes : List (List ℕ)) (n : ℕ) (x y : Circuit) : Type 0 where
+pub record Joined (classes : List (List Circuit)) (n : ℕ) (x y : Circuit) : Type 0 where
   pub chain : List Circuit
   pub short : AllByRecursion (λ c. length c ≤ n) chain
   pub starts : slice_get chain 0 ≡ Some x
   pub ends : slice_get chain (length chain - 1) ≡ Some y
-  pub steps : AreSteps b classes chain
+  pub steps : AreSteps classes chain

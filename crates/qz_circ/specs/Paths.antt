@@ -64,7 +64,7 @@ unfoldable pub total : List Path → Exponent → ℤ
 total [] e = pos 0
 total (p ∷ ps) e = (if same_exponent p.exponent e then p.sign else pos 0) +ℤ total ps e
 
--- how often the ways count the exponent, since ζ^256 is -1: as it is, less the ways with half a turn more
+-- how often the ways count the exponent: the ways with it, less those with 256 turns more, since ζ^256 is -1
 unfoldable pub count : List Path → Exponent → ℤ
 count ps e = total ps e -ℤ total ps (turned e 256)
 

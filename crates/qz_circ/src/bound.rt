@@ -1,5 +1,5 @@
 //! The bounds of a generation: how many gates, qubits and parameters its circuits may have.
-ghost use Rattle.std.specs.Prelude.{◌≡◌, ℕ, ◌≤◌, ◌+◌, ◌*◌, ◌↔◌, IsOk, IfOk, IfErr, Some, length};
+ghost use Rattle.std.specs.Prelude.{◌≡◌, ℕ, ◌<◌, ◌≤◌, ◌+◌, ◌*◌, ◌↔◌, IsOk, IfOk, IfErr, Some, length};
 ghost use Rattle.qz_circ.specs.Circuit.{gates_of};
 ghost use Rattle.qz_circ.specs.Bounds.{refusal, gate_count, IsLawful};
 ghost use Rattle.qz_circ.specs.Order.{all_circuits};
@@ -108,7 +108,8 @@ impl Bounds {
     /// The number of circuits within the bounds, fewer than 9,000,000.
     pub fn circuits(&self) -> u64
         ensures value { result ≡ length (all_circuits self.now) }
-        ensures few { result ≤ 9000000 }
+        ensures few { result < 9000000 }
+        ensures lawful { IsLawful self.now }
     {
         let gates = self.gates();
         let mut longest = 1;

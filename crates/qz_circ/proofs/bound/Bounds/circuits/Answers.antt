@@ -20,8 +20,8 @@ longer c =
     let product : c.loop.longest * c.gates-gates.result ≡ gate_count c.args.self.now ^ c.loop.counter * gate_count c.args.self.now = (λ i. longest i * gates i) in
     omega (arith, more, product, range.circuits, pow-suc (gate_count c.args.self.now) c.loop.counter)
 
--- all circuits, and at most nine millions
-counted : (c : After-loop) → (c.loop.all ≡ length (all_circuits c.args.self.now)) × (c.loop.all ≤ 9000000)
+-- all circuits, and fewer than nine millions
+counted : (c : After-loop) → (c.loop.all ≡ length (all_circuits c.args.self.now)) × (c.loop.all < 9000000)
 counted c =
     let range = in_range c.args.self.now c.gates-gates.ensures.lawful in
     let nine = nine_gates c.args.self.now range in
