@@ -1,2 +1,6 @@
 pub mod BoundsLemmas
 pub mod CircuitLists
+pub mod RisingLists
+pub mod CircuitPlaces
+pub mod GateNumbers
+pub mod RankLemmas
