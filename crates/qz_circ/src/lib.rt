@@ -6,8 +6,10 @@ pub mod bound;
 pub mod circuit;
 pub mod class_list;
 pub mod fault;
+pub mod laws;
 pub mod ranks;
 pub mod step_count;
+pub mod worked_values;
 
 pub use bound::Bounds;
 pub use circuit::{Expr, Op};
