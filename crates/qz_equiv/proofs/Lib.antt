@@ -1,0 +1,5 @@
+pub mod Exponents
+pub mod Totals
+pub mod Starts
+pub mod EquivalenceLaws
+pub mod WorkedValues
