@@ -11,7 +11,7 @@ use Rattle.qz_circ.specs.Exponent.{Exponent, IsExponent, zero_exponent, plus, mi
 use Rattle.qz_circ.specs.Paths.{Path, Ways, total, count, times, products, way_if, entry, through, stay, paths, root2_once, root2, has_bit, flipped, is_h, halves}
 use Rattle.qz_circ.specs.Equivalence.{scaled}
 use Rattle.qz_equiv.proofs.Exponents.{exponent_eq}
-use Rattle.qz_equiv.proofs.Totals.{AreProper, AreProper-append, AreProper-products, AreProper-root2_once, sign_of, one_way}
+use Rattle.qz_equiv.specs.Entries.{sign_of, one_way}
 
 -- the ways through the gates of a circuit after those of a start
 abbrev pub paths_from : ℕ → Ways → Circuit → Ways

@@ -6,25 +6,14 @@ use Rattle.std.proofs.lemmas.Int.{ints}
 use Rattle.std.proofs.lemmas.List.Concat.{flat_map-append}
 use Rattle.qz_circ.specs.Exponent.{Exponent, IsExponent, zero_exponent, plus, minus, turned, same_exponent, turn_of}
 use Rattle.qz_circ.specs.Paths.{Path, Ways, total, count, times, products, way_if, root2_once, root2}
+use Rattle.qz_equiv.specs.Entries.{AreProper, signed, sign_of, one_way}
 use Rattle.qz_equiv.proofs.Exponents.{same_like, plus_there, plus_back, minus_proper, turned_proper, turned-minus, exponent_eq, half_twice}
-
--- every way's exponent has a turn below 512
-abbrev pub AreProper : List Path → Type 0
-AreProper ps = AllByRecursion (λ p. IsExponent p.exponent) ps
 
 pub AreProper-append : (ps rs : List Path) → AreProper ps → AreProper rs → AreProper (ps ++ rs)
 AreProper-append [] rs h k = k
 AreProper-append (p ∷ ps) rs h k = (h.0, AreProper-append ps rs h.1 k)
 
--- a sign is 1, or -1 where it is negated
-abbrev pub signed : Bool → ℤ → ℤ
-signed true z = neg_ℤ z
-signed false z = z
-
-abbrev pub sign_of : Bool → ℤ
-sign_of true = negsuc 0
-sign_of false = pos 1
-
+-- times a sign
 pub times-sign : (b : Bool) (z : ℤ) → z *ℤ sign_of b ≡ signed b z
 times-sign true z = omega (arith, ints)
 times-sign false z = omega (arith, ints)
@@ -55,10 +44,6 @@ AreProper-products (p ∷ ps) rs = AreProper-append (map (times p) rs) (products
     row : (p : Path) (rs : List Path) → AreProper (map (times p) rs)
     row p [] = tt
     row p (r ∷ rs) = (omega arith, row p rs)
-
--- one way with this sign
-abbrev pub one_way : Bool → Exponent → List Path
-one_way b x = record { sign = sign_of b; exponent = x } ∷ []
 
 -- what one way adds to the total
 part_times : (b : Bool) (p : Path) (x e : Exponent) → IsExponent p.exponent → IsExponent x → IsExponent e → (if same_exponent (plus p.exponent x) e then p.sign *ℤ sign_of b else pos 0) ≡ signed b (if same_exponent p.exponent (minus e x) then p.sign else pos 0)
