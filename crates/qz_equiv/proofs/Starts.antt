@@ -11,11 +11,7 @@ use Rattle.qz_circ.specs.Exponent.{Exponent, IsExponent, zero_exponent, plus, mi
 use Rattle.qz_circ.specs.Paths.{Path, Ways, total, count, times, products, way_if, entry, through, stay, paths, root2_once, root2, has_bit, flipped, is_h, halves}
 use Rattle.qz_circ.specs.Equivalence.{scaled}
 use Rattle.qz_equiv.proofs.Exponents.{exponent_eq}
-use Rattle.qz_equiv.specs.Entries.{sign_of, one_way}
-
--- the ways through the gates of a circuit after those of a start
-abbrev pub paths_from : ℕ → Ways → Circuit → Ways
-paths_from q start c = fold (λ ways g. through q ways (entry g)) start c
+use Rattle.qz_equiv.specs.Entries.{sign_of, one_way, paths_from, scaled_stay}
 
 -- a sign and an exponent, or no way
 pub data Through (ps : List Path) : Type 0 where
@@ -110,10 +106,7 @@ unfolding root2
 root2-paths_from zero q w c i j = refl
 root2-paths_from (suc h) q w c i j = ap root2_once (root2-paths_from h q w c i j) ∙ root2_once-paths_from q (λ i j. root2 h (w i j)) c i j
 
--- the start of the scaled paths
-abbrev pub scaled_stay : ℕ → Ways
-scaled_stay h i j = root2 h (stay i j)
-
+-- the scaled ways are those from a scaled start
 pub scaled-from : (q : ℕ) (c other : Circuit) (i j : ℕ) → scaled q c other i j ≡ paths_from q (scaled_stay (halves other)) c i j
 unfolding scaled paths
 scaled-from q c other i j = root2-paths_from (halves other) q stay c i j

@@ -32,6 +32,10 @@ unfolding total
 total-append [] rs e = omega (arith, ints)
 total-append (p ∷ ps) rs e = let rest = total-append ps rs e in omega (arith, ints)
 
+pub count-none : (e : Exponent) → count [] e ≡ pos 0
+unfolding count total
+count-none e = refl
+
 pub count-append : (ps rs : List Path) (e : Exponent) → count (ps ++ rs) e ≡ count ps e +ℤ count rs e
 unfolding count
 count-append ps rs e = let here = total-append ps rs e in let half = total-append ps rs (turned e 256) in omega (arith, ints)

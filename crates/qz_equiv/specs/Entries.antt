@@ -1,5 +1,5 @@
 -- Sums of monomials that have the counts of path sums: as entries, columns and matrices.
-use Rattle.std.specs.Prelude.{◌≡◌, ◌≢◌, ℕ, ◌+◌, ◌^◌, ◌<◌, ◌≤◌, Bool, true, false, Option, Some, None, List, [], ◌∷◌, length, slice_index_or, ℤ, pos, negsuc, neg_ℤ}
+use Rattle.std.specs.Prelude.{◌≡◌, ◌≢◌, ℕ, ◌+◌, ◌*◌, ◌^◌, ◌<◌, ◌≤◌, max, Bool, true, false, Option, Some, None, List, [], ◌∷◌, length, slice_index_or, fold, ℤ, pos, negsuc, neg_ℤ, ◌+ℤ◌}
 use Rattle.std.specs.List.{flat_map, AllByRecursion}
 use Rattle.qz_circ.specs.declared.circuit.Op.{Op}
 use Rattle.qz_circ.specs.Circuit.{Circuit, below, ActsBelow, HasBelow}
@@ -66,6 +66,35 @@ IsLight column = (i : ℕ) → i < length column → (weight_of (row column i) �
 -- the ways to row i through a gate, after the ways to each row
 abbrev pub gathered : ℕ → Op → ℕ → (ℕ → List Path) → List Path
 gathered size g i ways = flat_map (λ k. products (ways k) (entry g i k)) (below size)
+
+-- new is old and the part after a way, or after none
+pub record AddsWay (part : Terms) (way : List Path) (old new : Terms) : Type 0 where
+  pub counts : (ps : List Path) → AreProper ps → ((e : Monomial) → IsMonomial e → count part e ≡ path_count ps (exponent_of e)) → (e : Monomial) → IsMonomial e → count new e ≡ count old e +ℤ path_count (products ps way) (exponent_of e)
+  pub weight : weight_of new ≤ weight_of old + weight_of part * length way
+  pub reach : largest_reach new ≤ max (largest_reach old) (largest_reach part)
+
+-- the sum of the column's entries before row k, each after the way to row i through a gate
+pub record IsGathered (size : ℕ) (g : Op) (i : ℕ) (column : List Terms) (k : ℕ) (sum : Terms) : Type 0 where
+  pub counts : (n : ℕ) (ways : ℕ → List Path) → IsColumn size n ways column → (e : Monomial) → IsMonomial e → count sum e ≡ path_count (gathered k g i ways) (exponent_of e)
+  pub weight : (m : ℕ) → ((k : ℕ) → k < length column → weight_of (row column k) ≤ m) → weight_of sum ≤ m * length (flat_map (entry g i) (below k))
+  pub reach : (m : ℕ) → ((k : ℕ) → k < length column → largest_reach (row column k) ≤ m) → largest_reach sum ≤ m
+
+-- each entry of the new column is gathered from the old one
+pub record IsNextColumn (size : ℕ) (g : Op) (old new : List Terms) : Type 0 where
+  pub rows : length new ≡ size
+  pub entries : (i : ℕ) → i < size → IsGathered size g i old size (row new i)
+
+-- the ways through the gates of a circuit after those of a start
+abbrev pub paths_from : ℕ → Ways → Circuit → Ways
+paths_from q start c = fold (λ ways g. through q ways (entry g)) start c
+
+-- no gate, times the square root of two as often as the number says
+abbrev pub scaled_stay : ℕ → Ways
+scaled_stay h i j = root2 h (stay i j)
+
+-- the ways through a circuit from one state, times the square root of two as often as the number says
+abbrev pub scaled_paths : ℕ → ℕ → Circuit → ℕ → ℕ → List Path
+scaled_paths q h c j i = paths_from q (scaled_stay h) c i j
 
 -- the gate is on qubits below q and has no parameters
 abbrev pub IsPlain : ℕ → Op → Type 0

@@ -3,4 +3,5 @@
 
 mod gate_way;
 pub mod laws;
+mod matrix;
 pub mod worked_values;
