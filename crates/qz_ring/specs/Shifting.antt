@@ -1,0 +1,24 @@
+-- Sums times a monomial, and times the square root of 2.
+use Rattle.std.specs.Prelude.{◌≡◌, ℕ, ◌+◌, ◌-◌, ◌<◌, ◌≤◌, length, nat_lt, if◌then◌else◌, neg_ℤ, ◌-ℤ◌}
+use Rattle.qz_ring.specs.Exponent.{Exponent, IsExponent, plus, minus, turn_alone, reach_of}
+use Rattle.qz_ring.specs.Terms.{Term, Terms, count, weight_of, largest_reach, IsCanonical}
+
+-- the exponent with its turn brought below half a circle
+abbrev pub half_turned : Exponent → Exponent
+half_turned e = record { turn = if nat_lt e.turn 256 then e.turn else e.turn - 256; x0 = e.x0; x1 = e.x1; x2 = e.x2 }
+
+-- the term times the monomial, where half a turn changes the sign
+abbrev pub shifted_term : Exponent → Term → Term
+shifted_term by t = record { exponent = half_turned (plus t.exponent by); coefficient = if nat_lt (plus t.exponent by).turn 256 then t.coefficient else neg_ℤ t.coefficient }
+
+-- new is old times the monomial, in its one form
+pub record IsShifted (by : Exponent) (old new : Terms) : Type 0 where
+  pub canonical : IsCanonical new
+  pub counts : (e : Exponent) → IsExponent e → count new e ≡ count old (minus e by)
+  pub weight : weight_of new ≡ weight_of old
+  pub length : length new ≡ length old
+  pub reach : largest_reach new ≤ largest_reach old + reach_of by
+
+-- new is old times the square root of 2, which is an eighth of a turn less three eighths of a turn
+abbrev pub IsTimesRoot2 : Terms → Terms → Type 0
+IsTimesRoot2 old new = (e : Exponent) → IsExponent e → count new e ≡ count old (minus e (turn_alone 64)) -ℤ count old (minus e (turn_alone 192))
