@@ -1,17 +1,8 @@
 -- What holds while two sums are added or subtracted, term by term.
-use Rattle.std.specs.Prelude.{◌≡◌, ℕ, ◌+◌, ◌≤◌, max, Bool, true, false, ◌++◌, map, length, List, [], ◌∷◌, if◌then◌else◌, ℤ, pos, ◌+ℤ◌, neg_ℤ}
+use Rattle.std.specs.Prelude.{◌≡◌, ℕ, ◌+◌, ◌≤◌, max, Bool, ◌++◌, length, [], ◌∷◌, if◌then◌else◌, ℤ, pos, ◌+ℤ◌}
 use Rattle.std.specs.Ordering.{int_eq}
 use Rattle.qz_ring.specs.Exponent.{Exponent}
-use Rattle.qz_ring.specs.Terms.{Term, Terms, coefficient_at, weight_of, largest_reach, IsCanonical}
-
--- the number, with the other sign if it is negated
-abbrev pub signed : Bool → ℤ → ℤ
-signed true z = neg_ℤ z
-signed false z = z
-
--- the term, with the other sign if it is negated
-abbrev pub signed_term : Bool → Term → Term
-signed_term negated t = record { exponent = t.exponent; coefficient = signed negated t.coefficient }
+use Rattle.qz_ring.specs.Terms.{Term, Terms, signed, coefficient_at, weight_of, largest_reach, IsCanonical}
 
 -- the sum of two terms with one exponent: no term if the coefficients cancel
 abbrev pub joined : Term → Term → Terms

@@ -1,15 +1,15 @@
 -- Sums times a monomial, and times the square root of 2.
-use Rattle.std.specs.Prelude.{◌≡◌, ℕ, ◌+◌, ◌-◌, ◌<◌, ◌≤◌, length, nat_lt, if◌then◌else◌, neg_ℤ, ◌-ℤ◌}
+use Rattle.std.specs.Prelude.{◌≡◌, ◌+◌, ◌%◌, ◌≤◌, length, nat_le, ◌-ℤ◌}
 use Rattle.qz_ring.specs.Exponent.{Exponent, IsExponent, plus, minus, turn_alone, reach_of}
-use Rattle.qz_ring.specs.Terms.{Term, Terms, count, weight_of, largest_reach, IsCanonical}
+use Rattle.qz_ring.specs.Terms.{Term, Terms, signed, count, weight_of, largest_reach, IsCanonical}
 
 -- the exponent with its turn brought below half a circle
 abbrev pub half_turned : Exponent → Exponent
-half_turned e = record { turn = if nat_lt e.turn 256 then e.turn else e.turn - 256; x0 = e.x0; x1 = e.x1; x2 = e.x2 }
+half_turned e = record { turn = e.turn % 256; x0 = e.x0; x1 = e.x1; x2 = e.x2 }
 
 -- the term times the monomial, where half a turn changes the sign
 abbrev pub shifted_term : Exponent → Term → Term
-shifted_term by t = record { exponent = half_turned (plus t.exponent by); coefficient = if nat_lt (plus t.exponent by).turn 256 then t.coefficient else neg_ℤ t.coefficient }
+shifted_term by t = let e = plus t.exponent by in record { exponent = half_turned e; coefficient = signed (nat_le 256 e.turn) t.coefficient }
 
 -- new is old times the monomial, in its one form
 pub record IsShifted (by : Exponent) (old new : Terms) : Type 0 where

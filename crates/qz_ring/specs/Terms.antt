@@ -1,5 +1,5 @@
 -- Sums of monomials with whole coefficients, as lists of terms.
-use Rattle.std.specs.Prelude.{◌≡◌, ◌≢◌, ℕ, ◌+◌, ◌<◌, max, List, [], ◌∷◌, if◌then◌else◌, ℤ, pos, ◌+ℤ◌, ◌-ℤ◌, unsigned_abs}
+use Rattle.std.specs.Prelude.{◌≡◌, ◌≢◌, ℕ, ◌+◌, ◌<◌, max, Bool, true, false, List, [], ◌∷◌, if◌then◌else◌, ℤ, pos, ◌+ℤ◌, ◌-ℤ◌, neg_ℤ, unsigned_abs}
 use Rattle.std.specs.List.{All, AllPairs}
 use Rattle.qz_ring.specs.Exponent.{Exponent, same_exponent, turned, ExponentBefore, reach_of}
 
@@ -11,6 +11,15 @@ pub record Term : Type 0 where
 -- a sum of terms
 abbrev pub Terms : Type 0
 Terms = List Term
+
+-- the number, with the other sign if it is negated
+abbrev pub signed : Bool → ℤ → ℤ
+signed true z = neg_ℤ z
+signed false z = z
+
+-- the term, with the other sign if it is negated
+abbrev pub signed_term : Bool → Term → Term
+signed_term negated t = record { exponent = t.exponent; coefficient = signed negated t.coefficient }
 
 -- what one term adds to the coefficient at an exponent
 abbrev pub part_at : Term → Exponent → ℤ

@@ -1,8 +1,9 @@
 //! The exponents of monomials, and their order.
 
-ghost use Rattle.std.specs.Prelude.{◌≡◌};
+ghost use Rattle.std.specs.Prelude.{◌≡◌, ◌+◌, ◌^◌, ◌≤◌};
 ghost use Rattle.std.specs.Ordering.{MatchOrdering};
-ghost use Rattle.qz_ring.specs.Exponent.{ExponentBefore};
+ghost use Rattle.qz_ring.specs.Exponent.{ExponentBefore, plus, reach_of};
+ghost use Rattle.qz_ring.specs.Shifting.{half_turned};
 
 use std::cmp::Ordering;
 use std::marker::Model;
@@ -57,5 +58,28 @@ fn compare_powers(a: Exponent, b: Exponent) -> Ordering
         p[1].cmp(&q[1])
     } else {
         p[2].cmp(&q[2])
+    }
+}
+
+// The exponent of the product of two monomials.
+pub(crate) fn product_of(a: Exponent, b: Exponent) -> Exponent
+    requires { reach_of a + reach_of b ≤ 2 ^ 40 }
+    ensures { result ≡ plus a b }
+{
+    let (p, q) = (a.powers, b.powers);
+    Exponent {
+        turn: (a.turn + b.turn) % 512,
+        powers: [p[0] + q[0], p[1] + q[1], p[2] + q[2]],
+    }
+}
+
+// The exponent with its turn brought below half a circle.
+pub(crate) fn below_half(e: Exponent) -> Exponent
+    ensures { result ≡ half_turned e }
+{
+    let powers = e.powers;
+    Exponent {
+        turn: e.turn % 256,
+        powers,
     }
 }

@@ -7,6 +7,7 @@
 
 mod elem;
 mod exponent;
+pub mod laws;
 mod merge;
 mod shift;
 mod term;

@@ -1,8 +1,8 @@
 //! The sum or the difference of two sorted lists of terms, in one pass over both.
 
 ghost use Rattle.std.specs.Prelude.{◌≡◌, ◌+◌, ◌^◌, ◌<◌, ◌≤◌, ◌⊎◌, [], ◌++◌, map, length, drop, vec_len, vec_capacity, IfOk, unsigned_abs};
-ghost use Rattle.qz_ring.specs.Terms.{weight_of, IsCanonical};
-ghost use Rattle.qz_ring.specs.Merging.{signed_term, IsMerging, IsMerged, joined};
+ghost use Rattle.qz_ring.specs.Terms.{signed_term, weight_of, IsCanonical};
+ghost use Rattle.qz_ring.specs.Merging.{IsMerging, IsMerged, joined};
 
 use crate::Memory;
 use crate::exponent::compare;

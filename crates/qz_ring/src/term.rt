@@ -1,12 +1,11 @@
 //! Single terms: a monomial with a whole coefficient.
 
-ghost use Rattle.std.specs.Prelude.{◌≡◌, ◌+◌, ◌^◌, ◌<◌, ◌≤◌, unsigned_abs};
-ghost use Rattle.qz_ring.specs.Exponent.{IsExponent, reach_of};
-ghost use Rattle.qz_ring.specs.Terms.{Term as Monomial};
-ghost use Rattle.qz_ring.specs.Merging.{signed_term};
+ghost use Rattle.std.specs.Prelude.{◌≡◌, ◌+◌, ◌^◌, ◌≤◌, unsigned_abs};
+ghost use Rattle.qz_ring.specs.Exponent.{reach_of};
+ghost use Rattle.qz_ring.specs.Terms.{signed_term};
 ghost use Rattle.qz_ring.specs.Shifting.{shifted_term};
 
-use crate::exponent::Exponent;
+use crate::exponent::{Exponent, below_half, product_of};
 use std::marker::Model;
 
 // A monomial with a whole coefficient.
@@ -47,22 +46,10 @@ pub(crate) fn shifted(term: Term, by: Exponent) -> Term
     requires reach { reach_of term.exponent + reach_of by ≤ 2 ^ 40 }
     ensures { result ≡ shifted_term by term }
 {
-    let turn = (term.exponent.turn + by.turn) % 512;
-    let p = term.exponent.powers;
-    let q = by.powers;
-    let powers = [p[0] + q[0], p[1] + q[1], p[2] + q[2]];
-    if turn < 256 {
-        Term {
-            exponent: Exponent { turn, powers },
-            coefficient: term.coefficient,
-        }
-    } else {
-        Term {
-            exponent: Exponent {
-                turn: turn - 256,
-                powers,
-            },
-            coefficient: -term.coefficient,
-        }
-    }
+    let product = product_of(term.exponent, by);
+    let unsigned = Term {
+        exponent: below_half(product),
+        coefficient: term.coefficient,
+    };
+    with_sign(unsigned, product.turn >= 256)
 }
