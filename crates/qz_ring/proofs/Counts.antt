@@ -1,10 +1,12 @@
 -- Counts of lists in the one form, which determine the list.
-use Rattle.std.proofs.Common.{◌≡◌, ◌≢◌, ℕ, ◌+◌, ◌-◌, ◌%◌, lit<, ◌<◌, ◌≤◌, false, [], ◌∷◌, get_or, ℤ, pos, ◌+ℤ◌, ◌-ℤ◌, neg_ℤ, Some, None, slice_get, refl, sym, ap, subst, ◌∙◌, inl, inr, arith}
-use Rattle.std.specs.Prelude.{unsigned_abs}
+use Rattle.std.proofs.Common.{◌≡◌, ◌≢◌, ℕ, ◌+◌, ◌-◌, ◌%◌, lit<, ◌<◌, ◌≤◌, false, [], ◌∷◌, get_or, ℤ, pos, ◌+ℤ◌, ◌-ℤ◌, neg_ℤ, ◌^◌, Bool, length, to_z, of_z, Some, None, slice_get, refl, sym, ap, subst, ◌∙◌, inl, inr, arith}
+use mathlib.Core.Bool.{false≢true}
+use Rattle.std.specs.Prelude.{unsigned_abs, IsTrue, ◌↔◌, ◌==◌}
+use Rattle.std.specs.Int.{w128}
 use Rattle.std.specs.List.{All}
 use Rattle.std.proofs.lemmas.List.Elements.{All-nil, All-cons, All-head, All-tail, All-weaker}
 use Rattle.std.proofs.lemmas.Bool.Decides.{nat_tests}
-use Rattle.std.proofs.lemmas.Int.{ints}
+use Rattle.std.proofs.lemmas.Int.{ints, to_z-of_z, fits_signed_from_abs}
 use Rattle.qz_ring.specs.Exponent.{Exponent, IsExponent, minus, turn_alone, turned, same_exponent, ExponentBefore}
 use Rattle.qz_ring.specs.Terms.{Term, Terms, part_at, coefficient_at, count, weight_of, IsCanonical}
 use Rattle.qz_ring.specs.Shifting.{IsTimesRoot2}
@@ -176,3 +178,22 @@ first_within (x ∷ xs) t first =
 -- an empty list has no counts
 pub count-empty : (ts : Terms) (e : Exponent) → ts ≡ [] → count ts e ≡ pos 0
 count-empty ts e none = rw none refl
+
+-- a length past 0 is not 0
+past_zero : (n : ℕ) → ((n + 1) == 0) ≡ false
+past_zero n = grind (arith, nat_tests)
+
+-- a list of no length is empty
+pub empty_tells : (ts : Terms) (n : ℕ) (r : Bool) → r ≡ (n == 0) → n ≡ length ts → IsTrue r ↔ (ts ≡ [])
+empty_tells [] n r test same = (λ yes. refl, λ none. rw (test, same) refl)
+empty_tells (t ∷ ts) n r test same =
+    let longer : n ≡ length ts + 1 = omega arith in
+    let no : r ≡ false = rw longer at test ∙ past_zero (length ts) in
+    (λ yes. absurd (false≢true (sym no ∙ yes)), λ none. cc)
+
+-- the first term of a list, as it is read, counts its coefficient
+pub count-read : (ts us vs : Terms) (t u : Term) → u ≡ t → Some t ≡ slice_get us 0 → us ≡ vs → vs ≡ ts → IsCanonical vs → weight_of vs ≤ 2 ^ 120 → count ts u.exponent ≡ to_z w128 (of_z w128 u.coefficient)
+count-read ts us vs t u read first same view canonical small =
+    let here : Some u ≡ slice_get vs 0 = rw (read, ← same) first in
+    let within = first_within vs u here in
+    rw (← view, to_z-of_z w128 u.coefficient (fits_signed_from_abs w128 u.coefficient (omega arith))) (count-first vs u here canonical)

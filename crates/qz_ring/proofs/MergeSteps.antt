@@ -1,5 +1,5 @@
 -- The steps of a merge, each of which keeps `IsMerging`, and its end.
-use Rattle.std.proofs.Common.{◌≡◌, ◌≢◌, ℕ, ◌+◌, ◌≤◌, max, Bool, true, false, cond, ◌⊎◌, List, [], ◌∷◌, ◌++◌, map, length, ℤ, pos, ◌+ℤ◌, refl, sym, ap, subst, ◌∙◌, append_assoc, length-append, get_or, inl, inr, arith}
+use Rattle.std.proofs.Common.{◌≡◌, ◌≢◌, ℕ, ◌+◌, ◌≤◌, max, Bool, true, false, cond, ◌⊎◌, List, [], ◌∷◌, ◌++◌, map, length, ℤ, pos, ◌+ℤ◌, ◌^◌, to_z, of_z, refl, sym, ap, subst, ◌∙◌, append_assoc, length-append, get_or, inl, inr, arith}
 use mathlib.Core.Bool.{false≢true}
 use Rattle.std.specs.Prelude.{unsigned_abs}
 use Rattle.std.specs.Bool.{Decides}
@@ -7,7 +7,8 @@ use Rattle.std.specs.Ordering.{int_eq}
 use Rattle.std.proofs.lemmas.Bool.Decides.{Decides-int_eq}
 use Rattle.std.proofs.lemmas.List.Elements.{All-map}
 use Rattle.std.proofs.lemmas.List.{append-nil}
-use Rattle.std.proofs.lemmas.Int.{ints}
+use Rattle.std.proofs.lemmas.Int.{ints, to_z-of_z, fits_signed_from_abs}
+use Rattle.std.specs.Int.{w128}
 use Rattle.qz_ring.specs.Exponent.{Exponent, same_exponent, reach_of}
 use Rattle.qz_ring.specs.Terms.{Term, Terms, signed, signed_term, part_at, coefficient_at, weight_of, largest_reach, IsCanonical}
 use Rattle.qz_ring.specs.Merging.{joined, IsMerging, IsMerged}
@@ -187,3 +188,22 @@ merge_all n left right out xs ys m used_up =
     canonical : (xs ≡ []) ⊎ (ys ≡ []) → IsCanonical ((out ++ xs) ++ map (signed_term n) ys)
     canonical (inl none) = rw (none, append-nil) (right_rest (IsCanonical-split out ys m.canonical_right))
     canonical (inr none) = rw (none, append-nil) m.canonical_left
+
+-- the sum of two numbers that are small enough, as the code makes it
+code_sum : (x y : ℤ) → unsigned_abs x ≤ 2 ^ 120 → unsigned_abs y ≤ 2 ^ 120 → to_z w128 (of_z w128 (to_z w128 (of_z w128 x) +ℤ to_z w128 (of_z w128 y))) ≡ x +ℤ y
+code_sum x y small_x small_y =
+    let bound = unsigned_abs-add x y in
+    rw (to_z-of_z w128 x (fits_signed_from_abs w128 x (omega arith)), to_z-of_z w128 y (fits_signed_from_abs w128 y (omega arith)), to_z-of_z w128 (x +ℤ y) (fits_signed_from_abs w128 (x +ℤ y) (omega arith))) refl
+
+-- a sum that is not 0, as the code makes it, is one term
+pub joined_nonzero : (x y a b : Term) → x ≡ a → y ≡ b → unsigned_abs a.coefficient ≤ 2 ^ 120 → unsigned_abs b.coefficient ≤ 2 ^ 120 → (of_z w128 (to_z w128 (of_z w128 x.coefficient) +ℤ to_z w128 (of_z w128 y.coefficient)) ≡ 0 → ⊥) → record { exponent = x.exponent; coefficient = to_z w128 (of_z w128 (to_z w128 (of_z w128 x.coefficient) +ℤ to_z w128 (of_z w128 y.coefficient))) } ∷ [] ≡ joined a b
+joined_nonzero x y a b read_a read_b small_a small_b nonzero =
+    let sum = a.coefficient +ℤ b.coefficient in
+    let t : Term = record { exponent = a.exponent; coefficient = sum } in
+    let inner : to_z w128 (of_z w128 x.coefficient) +ℤ to_z w128 (of_z w128 y.coefficient) ≡ sum = rw (read_a, read_b, to_z-of_z w128 a.coefficient (fits_signed_from_abs w128 a.coefficient (omega arith)), to_z-of_z w128 b.coefficient (fits_signed_from_abs w128 b.coefficient (omega arith))) refl in
+    let made : to_z w128 (of_z w128 (to_z w128 (of_z w128 x.coefficient) +ℤ to_z w128 (of_z w128 y.coefficient))) ≡ sum = rw (read_a, read_b) (code_sum a.coefficient b.coefficient small_a small_b) in
+    let same : record { exponent = x.exponent; coefficient = to_z w128 (of_z w128 (to_z w128 (of_z w128 x.coefficient) +ℤ to_z w128 (of_z w128 y.coefficient))) } ≡ t = rw (made, read_a) refl in
+    elim (int_eq sum (pos 0)) as (λ w. Decides w (sum ≡ pos 0) → record { exponent = x.exponent; coefficient = to_z w128 (of_z w128 (to_z w128 (of_z w128 x.coefficient) +ℤ to_z w128 (of_z w128 y.coefficient))) } ∷ [] ≡ cond w [] (t ∷ [])) [
+      | true ↦ λ decides. absurd (nonzero (ap (of_z w128) (inner ∙ decides.0 refl)))
+      | false ↦ λ decides. ap (λ (u : Term). u ∷ []) same
+    ] (Decides-int_eq sum (pos 0))

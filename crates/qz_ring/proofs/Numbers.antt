@@ -1,7 +1,7 @@
 -- Absolute values and signs of whole numbers.
 use Rattle.std.proofs.Common.{◌≡◌, ◌+◌, ◌≤◌, true, false, Bool, ℕ, zero, suc, ℤ, pos, negsuc, ◌+ℤ◌, neg_ℤ, ◌^◌, to_z, of_z, refl, arith}
 use Rattle.std.specs.Prelude.{unsigned_abs}
-use Rattle.std.specs.Int.{w64}
+use Rattle.std.specs.Int.{w64, w128}
 use Rattle.std.proofs.lemmas.Int.{ints, to_z-of_z, fits_signed_from_abs}
 use Rattle.qz_ring.specs.Terms.{signed}
 
@@ -30,3 +30,7 @@ pub power_sum : (x y p q : ℤ) → x ≡ p → y ≡ q → unsigned_abs p + uns
 power_sum x y p q first second small =
     let bound = unsigned_abs-add p q in
     rw (first, second, to_z-of_z w64 p (fits_signed_from_abs w64 p (omega arith)), to_z-of_z w64 q (fits_signed_from_abs w64 q (omega arith)), to_z-of_z w64 (p +ℤ q) (fits_signed_from_abs w64 (p +ℤ q) (omega arith))) refl
+
+-- the absolute value of a coefficient, as the code reads it
+pub unsigned_abs-read : (x z : ℤ) → x ≡ z → unsigned_abs z ≤ 2 ^ 120 → unsigned_abs (to_z w128 (of_z w128 x)) ≡ unsigned_abs z
+unsigned_abs-read x z read small = rw (read, to_z-of_z w128 z (fits_signed_from_abs w128 z (omega arith))) refl

@@ -4,7 +4,7 @@ ghost use Rattle.std.specs.Prelude.{◌≡◌, ◌≢◌, ◌↔◌, ◌+◌, �
 ghost use Rattle.qz_ring.specs.Exponent.{Exponent as Monomial, IsExponent, zero_exponent, minus, reach_of, turn_alone};
 ghost use Rattle.qz_ring.specs.Terms.{Terms, count, weight_of, largest_reach};
 ghost use Rattle.qz_ring.specs.Merging.{IsMerged};
-ghost use Rattle.qz_ring.specs.Shifting.{IsShifted, IsTimesRoot2};
+ghost use Rattle.qz_ring.specs.Shifting.{IsTimesRoot2};
 
 use crate::Memory;
 use crate::exponent::Exponent;
@@ -133,9 +133,11 @@ impl Elem {
     // A copy of the sum, times the monomial that only turns.
     fn turned_copy(&self, turn: u16) -> Result<Elem, Memory>
         requires { turn < 512 }
-        ensures shifted { IfOk result (IsShifted (turn_alone turn) self.now) }
-        ensures bounded { weight_of self.now ≤ 2 ^ 120 }
+        ensures counts { IfOk result (λ turned. (e : Monomial) → IsExponent e → count turned e ≡ count self.now (minus e (turn_alone turn))) }
+        ensures weight { IfOk result (λ turned. weight_of turned ≡ weight_of self.now) }
+        ensures reach { IfOk result (λ turned. largest_reach turned ≤ largest_reach self.now) }
     {
+        let _ = &self.terms;
         let mut copy = self.copy()?;
         copy.shift(Exponent {
             turn,
