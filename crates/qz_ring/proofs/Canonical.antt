@@ -130,8 +130,8 @@ before_images : (P : Term → Type 0) (f : Term → Term) → Keeps P f → (t :
 before_images P f keeps t p normal [] all canonical after = All-nil (TermBefore (f t))
 before_images P f keeps t p normal (u ∷ us) all canonical after =
     All-cons (TermBefore (f t)) (f u) (map f us)
-      (keeps.order t u p (All-head P u us all) normal (head_normal u us canonical) (All-head (TermBefore t) u us after))
-      (before_images P f keeps t p normal us (All-tail P u us all) (IsCanonical-tail u us canonical) (All-tail (TermBefore t) u us after))
+    (keeps.order t u p (All-head P u us all) normal (head_normal u us canonical) (All-head (TermBefore t) u us after))
+    (before_images P f keeps t p normal us (All-tail P u us all) (IsCanonical-tail u us canonical) (All-tail (TermBefore t) u us after))
 
 -- such a map keeps the one form
 pub IsCanonical-map : (P : Term → Type 0) (f : Term → Term) → Keeps P f → (ts : Terms) → All P ts → IsCanonical ts → IsCanonical (map f ts)
@@ -141,5 +141,5 @@ IsCanonical-map P f keeps (t ∷ ts) all canonical =
     let p = All-head P t ts all in
     let tail = IsCanonical-tail t ts canonical in
     IsCanonical-cons (f t) (map f ts) (keeps.normal t p normal)
-      (before_images P f keeps t p normal ts (All-tail P t ts all) tail (head_before t ts canonical))
-      (IsCanonical-map P f keeps ts (All-tail P t ts all) tail)
+    (before_images P f keeps t p normal ts (All-tail P t ts all) tail (head_before t ts canonical))
+    (IsCanonical-map P f keeps ts (All-tail P t ts all) tail)

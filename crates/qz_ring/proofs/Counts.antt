@@ -91,10 +91,10 @@ terms_from_coefficients (x ∷ xs) (y ∷ ys) left right same = elim (exponent_c
   | inl before ↦ absurd (first_is_missed x xs (y ∷ ys) left (All-cons (TermBefore x) y ys before (All-weaker (TermBefore y) (TermBefore x) (λ z after. ExponentBefore-trans x.exponent y.exponent z.exponent before after) ys (head_before y ys right))) same)
   | inr (inr before) ↦ absurd (first_is_missed y ys (x ∷ xs) right (All-cons (TermBefore y) x xs before (All-weaker (TermBefore x) (TermBefore y) (λ z after. ExponentBefore-trans y.exponent x.exponent z.exponent before after) xs (head_before x xs left))) (λ e low. sym (same e low)))
   | inr (inl exponents) ↦
-    let coefficients : x.coefficient ≡ y.coefficient = sym (coefficient_at-head x xs left) ∙ same x.exponent (head_normal x xs left).half_turn ∙ ap (coefficient_at (y ∷ ys)) exponents ∙ coefficient_at-head y ys right in
-    let heads : x ≡ y = same_term_from_parts x y exponents coefficients in
-    let rest : xs ≡ ys = terms_from_coefficients xs ys (IsCanonical-tail x xs left) (IsCanonical-tail y ys right) (rest_is_same x xs ys (subst (λ (z : Term). SameCoefficients (x ∷ xs) (z ∷ ys)) (sym heads) same)) in
-    ap (λ (z : Term). z ∷ xs) heads ∙ ap (λ (zs : Terms). y ∷ zs) rest
+      let coefficients : x.coefficient ≡ y.coefficient = sym (coefficient_at-head x xs left) ∙ same x.exponent (head_normal x xs left).half_turn ∙ ap (coefficient_at (y ∷ ys)) exponents ∙ coefficient_at-head y ys right in
+      let heads : x ≡ y = same_term_from_parts x y exponents coefficients in
+      let rest : xs ≡ ys = terms_from_coefficients xs ys (IsCanonical-tail x xs left) (IsCanonical-tail y ys right) (rest_is_same x xs ys (subst (λ (z : Term). SameCoefficients (x ∷ xs) (z ∷ ys)) (sym heads) same)) in
+      ap (λ (z : Term). z ∷ xs) heads ∙ ap (λ (zs : Terms). y ∷ zs) rest
 ]
 
 -- lists in the one form with the same counts are the same
@@ -114,8 +114,8 @@ count-head t ts canonical = count-below_half (t ∷ ts) canonical t.exponent (he
 minus-twice : (e : Exponent) (j k n : ℕ) → e.turn < 512 → j < 512 → k < 512 → (j + k) % 512 ≡ n → minus (minus e (turn_alone j)) (turn_alone k) ≡ minus e (turn_alone n)
 minus-twice e j k n in_circle j_in k_in sum =
     same_from_parts (minus (minus e (turn_alone j)) (turn_alone k)) (minus e (turn_alone n))
-      (let turns : ((e.turn + (512 - j)) % 512 + (512 - k)) % 512 ≡ (e.turn + (512 - n)) % 512 = omega arith in turns)
-      (minus_none e.x0) (minus_none e.x1) (minus_none e.x2)
+    (let turns : ((e.turn + (512 - j)) % 512 + (512 - k)) % 512 ≡ (e.turn + (512 - n)) % 512 = omega arith in turns)
+    (minus_none e.x0) (minus_none e.x1) (minus_none e.x2)
   where
     minus_none : (x : ℤ) → (x -ℤ pos 0) -ℤ pos 0 ≡ x -ℤ pos 0
     minus_none x = omega (arith, ints)
@@ -124,15 +124,15 @@ minus-twice e j k n in_circle j_in k_in sum =
 minus-past_half : (e : Exponent) (k n : ℕ) → e.turn < 512 → k < 512 → (k + 256) % 512 ≡ n → minus e (turn_alone n) ≡ turned (minus e (turn_alone k)) 256
 minus-past_half e k n in_circle k_in sum =
     same_from_parts (minus e (turn_alone n)) (turned (minus e (turn_alone k)) 256)
-      (let turns : (e.turn + (512 - n)) % 512 ≡ ((e.turn + (512 - k)) % 512 + 256) % 512 = omega arith in turns)
-      refl refl refl
+    (let turns : (e.turn + (512 - n)) % 512 ≡ ((e.turn + (512 - k)) % 512 + 256) % 512 = omega arith in turns)
+    refl refl refl
 
 -- going back by no turn stays
 minus-none : (e : Exponent) → IsExponent e → minus e (turn_alone 0) ≡ e
 minus-none e in_circle =
     same_from_parts (minus e (turn_alone 0)) e
-      (let turns : (e.turn + (512 - 0)) % 512 ≡ e.turn = omega arith in turns)
-      (minus_nothing e.x0) (minus_nothing e.x1) (minus_nothing e.x2)
+    (let turns : (e.turn + (512 - 0)) % 512 ≡ e.turn = omega arith in turns)
+    (minus_nothing e.x0) (minus_nothing e.x1) (minus_nothing e.x2)
   where
     minus_nothing : (x : ℤ) → x -ℤ pos 0 ≡ x
     minus_nothing x = omega (arith, ints)

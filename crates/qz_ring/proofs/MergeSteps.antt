@@ -1,20 +1,21 @@
 -- The steps of a merge, each of which keeps `IsMerging`, and its end.
-use Rattle.std.proofs.Common.{◌≡◌, ◌≢◌, ℕ, ◌+◌, ◌≤◌, max, Bool, true, false, cond, ◌⊎◌, List, [], ◌∷◌, ◌++◌, map, length, ℤ, pos, ◌+ℤ◌, ◌^◌, to_z, of_z, refl, sym, ap, subst, ◌∙◌, append_assoc, length-append, get_or, inl, inr, arith}
+use Rattle.std.proofs.Common.{◌≡◌, ◌≢◌, ℕ, ◌+◌, ◌≤◌, max, Bool, true, false, cond, ◌⊎◌, List, [], ◌∷◌, ◌++◌, map, length, ℤ, pos, ◌+ℤ◌, ◌^◌, to_z, of_z, refl, sym, ap, subst, ◌∙◌, suc, ◌<◌, ◌-◌, ◌-ℤ◌, if◌then◌else◌, take, drop, length-drop, add-one, append_assoc, length-append, get_or, inl, inr, arith}
 use mathlib.Core.Bool.{false≢true}
 use Rattle.std.specs.Prelude.{unsigned_abs}
 use Rattle.std.specs.Bool.{Decides}
 use Rattle.std.specs.Ordering.{int_eq}
 use Rattle.std.proofs.lemmas.Bool.Decides.{Decides-int_eq}
 use Rattle.std.proofs.lemmas.List.Elements.{All-map}
-use Rattle.std.proofs.lemmas.List.{append-nil}
+use Rattle.std.proofs.lemmas.List.{append-nil, take_all, drop_all}
+use Rattle.std.proofs.Math.Seq.{drop-cons}
 use Rattle.std.proofs.lemmas.Int.{ints, to_z-of_z, fits_signed_from_abs}
 use Rattle.std.specs.Int.{w128}
-use Rattle.qz_ring.specs.Exponent.{Exponent, same_exponent, reach_of}
-use Rattle.qz_ring.specs.Terms.{Term, Terms, signed, signed_term, part_at, coefficient_at, weight_of, largest_reach, IsCanonical}
+use Rattle.qz_ring.specs.Exponent.{Exponent, turned, same_exponent, ExponentBefore, reach_of}
+use Rattle.qz_ring.specs.Terms.{Term, Terms, signed, signed_term, part_at, coefficient_at, count, weight_of, largest_reach, IsCanonical}
 use Rattle.qz_ring.specs.Merging.{joined, IsMerging, IsMerged}
 use Rattle.qz_ring.proofs.Numbers.{unsigned_abs-add, unsigned_abs-signed, signed-add}
 use Rattle.qz_ring.proofs.Sums.{coefficient_at-append, weight_of-append, largest_reach-append}
-use Rattle.qz_ring.proofs.Canonical.{TermBefore, canonical_before, canonical_replaced, canonical_without, IsCanonical-split, IsCanonical-join, IsJoin, IsNormal, Keeps, IsCanonical-map}
+use Rattle.qz_ring.proofs.Canonical.{TermBefore, head_normal, canonical_before, canonical_replaced, canonical_without, IsCanonical-split, IsCanonical-join, IsJoin, IsNormal, Keeps, IsCanonical-map}
 
 -- a sign of 0 is 0
 signed-zero : (n : Bool) → signed n (pos 0) ≡ pos 0
@@ -83,9 +84,10 @@ merge_left n left right out xs ys x y m before = record {
 }
 
 -- the first term on the right is moved, with its sign
-pub merge_right : (n : Bool) (left right out xs ys : Terms) (x y : Term) → IsMerging n left right out (x ∷ xs) (y ∷ ys) → y.coefficient ≢ pos 0 → TermBefore y x → IsMerging n left right (out ++ signed_term n y ∷ []) (x ∷ xs) ys
-merge_right n left right out xs ys x y m nonzero before =
+pub merge_right : (n : Bool) (left right out xs ys : Terms) (x y : Term) → IsMerging n left right out (x ∷ xs) (y ∷ ys) → TermBefore y x → IsMerging n left right (out ++ signed_term n y ∷ []) (x ∷ xs) ys
+merge_right n left right out xs ys x y m before =
     let s = signed_term n y in
+    let nonzero = (head_normal y ys (IsCanonical-split out (y ∷ ys) m.canonical_right).back).nonzero in
     let replaced = canonical_replaced out ys y s refl (signed_nonzero n y.coefficient nonzero) m.canonical_right in
     record {
       canonical_left = rw append_assoc (canonical_before out ys xs s x replaced m.canonical_left before);
@@ -110,6 +112,7 @@ coefficient_at-joined x s e same =
     nothing : (v : Bool) → cond v (pos 0) (pos 0) ≡ pos 0
     nothing true = refl
     nothing false = refl
+
     with_none : (z : ℤ) → z +ℤ pos 0 ≡ z
     with_none z = omega (arith, ints)
 
@@ -185,6 +188,7 @@ merge_all n left right out xs ys m used_up =
       back = IsCanonical-map (λ _. Unit {0}) (signed_term n) (keeps_signs n) ys (λ k d in_range. tt) join.back;
       between = λ k d in_range. All-map (TermBefore (get_or out k d)) (signed_term n) ys (join.between k d in_range);
     })
+
     canonical : (xs ≡ []) ⊎ (ys ≡ []) → IsCanonical ((out ++ xs) ++ map (signed_term n) ys)
     canonical (inl none) = rw (none, append-nil) (right_rest (IsCanonical-split out ys m.canonical_right))
     canonical (inr none) = rw (none, append-nil) m.canonical_left
@@ -207,3 +211,59 @@ joined_nonzero x y a b read_a read_b small_a small_b nonzero =
       | true ↦ λ decides. absurd (nonzero (ap (of_z w128) (inner ∙ decides.0 refl)))
       | false ↦ λ decides. ap (λ (u : Term). u ∷ []) same
     ] (Decides-int_eq sum (pos 0))
+
+-- the order of two exponents, as they are read
+pub before_read : (a b x y : Exponent) → a ≡ x → b ≡ y → ExponentBefore a b → ExponentBefore x y
+before_read a b x y first second before = subst (λ (e : Exponent). ExponentBefore x e) second (subst (λ (e : Exponent). ExponentBefore e b) first before)
+
+module _ (n : Bool) (left right out : Terms) (i j : ℕ) (x y : Term) (i_in : i < length left) (j_in : j < length right) (read_left : x ≡ get_or left i x) (read_right : y ≡ get_or right j y) (m : IsMerging n left right out (drop i left) (drop j right)) where
+  -- the rest on the left begins with the term that is read
+  left_is : drop i left ≡ x ∷ drop (i + 1) left
+  left_is = rw add-one (drop-cons left i x i_in ∙ ap (λ (t : Term). t ∷ drop (suc i) left) (sym read_left))
+
+  -- so does the rest on the right
+  right_is : drop j right ≡ y ∷ drop (j + 1) right
+  right_is = rw add-one (drop-cons right j y j_in ∙ ap (λ (t : Term). t ∷ drop (suc j) right) (sym read_right))
+
+  -- what is left, with both first terms in sight
+  opened : IsMerging n left right out (x ∷ drop (i + 1) left) (y ∷ drop (j + 1) right)
+  opened = subst (λ (ys : Terms). IsMerging n left right out (x ∷ drop (i + 1) left) ys) right_is (subst (λ (xs : Terms). IsMerging n left right out xs (drop j right)) left_is m)
+
+  -- a step on the left
+  pub step_left : TermBefore x y → IsMerging n left right (out ++ x ∷ []) (drop (i + 1) left) (drop j right)
+  step_left before = subst (λ (ys : Terms). IsMerging n left right (out ++ x ∷ []) (drop (i + 1) left) ys) (sym right_is) (merge_left n left right out (drop (i + 1) left) (drop (j + 1) right) x y opened before)
+
+  -- a step on the right
+  pub step_right : TermBefore y x → IsMerging n left right (out ++ signed_term n y ∷ []) (drop i left) (drop (j + 1) right)
+  step_right before = subst (λ (xs : Terms). IsMerging n left right (out ++ signed_term n y ∷ []) xs (drop (j + 1) right)) (sym left_is) (merge_right n left right out (drop (i + 1) left) (drop (j + 1) right) x y opened before)
+
+  -- a step on both sides
+  pub step_both : x.exponent ≡ y.exponent → IsMerging n left right (out ++ joined x (signed_term n y)) (drop (i + 1) left) (drop (j + 1) right)
+  step_both same = merge_both n left right out (drop (i + 1) left) (drop (j + 1) right) x y opened same
+
+-- the rest of a list, as the code takes it, is all of the rest
+rest_taken : (ts : Terms) (i : ℕ) → take (length ts - i) (drop i ts) ≡ drop i ts
+rest_taken ts i = take_all (length ts - i) (drop i ts) (omega (arith, length-drop i ts))
+
+-- once one side is used up, the rest of both sides is appended, and the list is the whole
+pub merge_finished : (n : Bool) (left right out longer new : Terms) (i j : ℕ) (ok : Bool) → IsMerging n left right out (drop i left) (drop j right) → (i ≡ length left) ⊎ (j ≡ length right) → longer ≡ (if ok then out ++ take (length left - i) (drop i left) else out) → ok ≡ true → new ≡ longer ++ map (signed_term n) (take (length right - j) (drop j right)) → IsMerged n left right new
+merge_finished n left right out longer new i j ok m used_up extended went_well appended =
+    let whole = merge_all n left right out (drop i left) (drop j right) m (elim used_up [
+      | inl same ↦ inl (drop_all i left (omega arith))
+      | inr same ↦ inr (drop_all j right (omega arith))
+    ]) in
+    rw (appended, extended, went_well, rest_taken left i, rest_taken right j) whole
+
+-- the difference of two numbers with a sign
+signed-sub : (n : Bool) (a b : ℤ) → signed n a -ℤ signed n b ≡ signed n (a -ℤ b)
+signed-sub true a b = omega (arith, ints)
+signed-sub false a b = refl
+
+-- the counts of the whole
+pub count-merged : (n : Bool) (left right merged : Terms) → IsMerged n left right merged → (e : Exponent) → count merged e ≡ count left e +ℤ signed n (count right e)
+count-merged n left right merged m e =
+    let half = turned e 256 in
+    difference (coefficient_at merged e) (coefficient_at merged half) (coefficient_at left e) (coefficient_at left half) (signed n (coefficient_at right e)) (signed n (coefficient_at right half)) (signed n (count right e)) (m.coefficients e) (m.coefficients half) (signed-sub n (coefficient_at right e) (coefficient_at right half))
+  where
+    difference : (m m' l l' r r' s : ℤ) → m ≡ l +ℤ r → m' ≡ l' +ℤ r' → r -ℤ r' ≡ s → m -ℤ m' ≡ (l -ℤ l') +ℤ s
+    difference m m' l l' r r' s first second third = omega (arith, ints)

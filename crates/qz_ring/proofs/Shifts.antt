@@ -104,15 +104,15 @@ choices_swapped v w z = rw (choice_negated v z, choice_negated w z) (let flips :
 turned_part : (p : Bool) (z : ℤ) (t b e : ℕ) → t < 256 → b < 512 → e < 512 → cond ((((t + b) % 512) % 256 == e) && p) (signed (nat_le 256 ((t + b) % 512)) z) (pos 0) -ℤ cond ((((t + b) % 512) % 256 == ((e + 256) % 512)) && p) (signed (nat_le 256 ((t + b) % 512)) z) (pos 0) ≡ cond ((t == ((e + (512 - b)) % 512)) && p) z (pos 0) -ℤ cond ((t == (((e + (512 - b)) % 512 + 256) % 512)) && p) z (pos 0)
 turned_part p z t b e t_in b_in e_in = elim (cases_lt ((t + b) % 512) 256) [
   | inl low ↦
-    let sign : nat_le 256 ((t + b) % 512) ≡ false = grind (arith, nat_tests) in
-    let here = eqb-like (((t + b) % 512) % 256) e t ((e + (512 - b)) % 512) (λ same. omega arith) (λ same. omega arith) in
-    let there = eqb-like (((t + b) % 512) % 256) ((e + 256) % 512) t (((e + (512 - b)) % 512 + 256) % 512) (λ same. omega arith) (λ same. omega arith) in
-    rw (sign, here, there) refl
+      let sign : nat_le 256 ((t + b) % 512) ≡ false = grind (arith, nat_tests) in
+      let here = eqb-like (((t + b) % 512) % 256) e t ((e + (512 - b)) % 512) (λ same. omega arith) (λ same. omega arith) in
+      let there = eqb-like (((t + b) % 512) % 256) ((e + 256) % 512) t (((e + (512 - b)) % 512 + 256) % 512) (λ same. omega arith) (λ same. omega arith) in
+      rw (sign, here, there) refl
   | inr high ↦
-    let sign : nat_le 256 ((t + b) % 512) ≡ true = grind (arith, nat_tests) in
-    let here = eqb-like (((t + b) % 512) % 256) e t (((e + (512 - b)) % 512 + 256) % 512) (λ same. omega arith) (λ same. omega arith) in
-    let there = eqb-like (((t + b) % 512) % 256) ((e + 256) % 512) t ((e + (512 - b)) % 512) (λ same. omega arith) (λ same. omega arith) in
-    rw (sign, here, there) (choices_swapped ((t == ((e + (512 - b)) % 512)) && p) ((t == (((e + (512 - b)) % 512 + 256) % 512)) && p) z)
+      let sign : nat_le 256 ((t + b) % 512) ≡ true = grind (arith, nat_tests) in
+      let here = eqb-like (((t + b) % 512) % 256) e t (((e + (512 - b)) % 512 + 256) % 512) (λ same. omega arith) (λ same. omega arith) in
+      let there = eqb-like (((t + b) % 512) % 256) ((e + 256) % 512) t ((e + (512 - b)) % 512) (λ same. omega arith) (λ same. omega arith) in
+      rw (sign, here, there) (choices_swapped ((t == ((e + (512 - b)) % 512)) && p) ((t == (((e + (512 - b)) % 512 + 256) % 512)) && p) z)
 ]
 
 -- a shifted term counts where the term counted before
@@ -124,8 +124,8 @@ count-shifted : (by : Exponent) (ts : Terms) (e : Exponent) → All (λ t. t.exp
 count-shifted by [] e low by_in e_in = refl
 count-shifted by (t ∷ ts) e low by_in e_in =
     joined_counts (part_at (shifted_term by t) e) (part_at (shifted_term by t) (turned e 256)) (part_at t (minus e by)) (part_at t (turned (minus e by) 256)) _ _ _ _
-      (part-shifted t by e (All-head (λ t. t.exponent.turn < 256) t ts low) by_in e_in)
-      (count-shifted by ts e (All-tail (λ t. t.exponent.turn < 256) t ts low) by_in e_in)
+    (part-shifted t by e (All-head (λ t. t.exponent.turn < 256) t ts low) by_in e_in)
+    (count-shifted by ts e (All-tail (λ t. t.exponent.turn < 256) t ts low) by_in e_in)
   where
     joined_counts : (a b c d x y z w : ℤ) → a -ℤ b ≡ c -ℤ d → x -ℤ y ≡ z -ℤ w → (a +ℤ x) -ℤ (b +ℤ y) ≡ (c +ℤ z) -ℤ (d +ℤ w)
     joined_counts a b c d x y z w first rest = omega (arith, ints)
@@ -162,7 +162,7 @@ module _ (by : Exponent) where
   keeps_below = record {
     normal = λ t p normal. IsNormal-shifted by t normal;
     order = λ t u p q first second before.
-      ExponentBefore-plus t.exponent u.exponent by 0 (by.turn % 256)
+        ExponentBefore-plus t.exponent u.exponent by 0 (by.turn % 256)
         (let sum = turn_below t.exponent.turn by.turn p in let turns : ((t.exponent.turn + by.turn) % 512) % 256 + 0 ≡ t.exponent.turn + by.turn % 256 = omega (arith, sum) in turns)
         (let sum = turn_below u.exponent.turn by.turn q in let turns : ((u.exponent.turn + by.turn) % 512) % 256 + 0 ≡ u.exponent.turn + by.turn % 256 = omega (arith, sum) in turns)
         before;
@@ -173,7 +173,7 @@ module _ (by : Exponent) where
   keeps_passing = record {
     normal = λ t p normal. IsNormal-shifted by t normal;
     order = λ t u p q first second before.
-      ExponentBefore-plus t.exponent u.exponent by 256 (by.turn % 256)
+        ExponentBefore-plus t.exponent u.exponent by 256 (by.turn % 256)
         (turn_passing t.exponent.turn by.turn first.half_turn p)
         (turn_passing u.exponent.turn by.turn second.half_turn q)
         before;
@@ -195,7 +195,7 @@ module _ (by : Exponent) where
         front = IsCanonical-map (λ t. 256 - by.turn % 256 ≤ t.exponent.turn) f keeps_passing (drop k ts) passes parts.back;
         back = IsCanonical-map (λ t. t.exponent.turn < 256 - by.turn % 256) f keeps_below (take k ts) low parts.front;
         between = All-map (λ x. All (TermBefore x) (map f (take k ts))) f (drop k ts) (λ i d i_in.
-          All-map (TermBefore (f (get_or (drop k ts) i d))) f (take k ts) (λ j g j_in.
+            All-map (TermBefore (f (get_or (drop k ts) i d))) f (take k ts) (λ j g j_in.
             passing_before_below (get_or (drop k ts) i d) (get_or (take k ts) j g) (parts.back.half_turns i d i_in) (passes i d i_in) (low j g j_in)));
       })
 
@@ -214,5 +214,6 @@ module _ (by : Exponent) where
     where
       rotated_count : (e : Exponent) → count (drop k ts ++ take k ts) e ≡ count ts e
       rotated_count e = ap (λ (z : ℤ). z -ℤ coefficient_at (drop k ts ++ take k ts) (turned e 256)) (coefficient_at-rotated ts k e) ∙ ap (λ (z : ℤ). coefficient_at ts e -ℤ z) (coefficient_at-rotated ts k (turned e 256))
+
       rotated_length : length (drop k ts ++ take k ts) ≡ length ts
       rotated_length = omega (arith, length-append (drop k ts) (take k ts), sym (length-append (take k ts) (drop k ts)) ∙ ap length (take-append-drop k ts))

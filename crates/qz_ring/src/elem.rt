@@ -220,3 +220,6 @@ fn weigh(terms: &[Term]) -> u128
     }
     weight
 }
+
+#[cfg(test)]
+mod tests;

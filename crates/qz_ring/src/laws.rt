@@ -8,17 +8,14 @@ ghost use Rattle.qz_ring.specs.Shifting.{IsTimesRoot2};
 /// Two lists in the one form with the same counts are the same list.
 pub fn counts_determine_terms()
     ensures { (a b : Terms) → IsCanonical a → IsCanonical b → ((e : Monomial) → IsExponent e → count a e ≡ count b e) → a ≡ b }
-{
-}
+{}
 
 /// Half a turn further, every count has the other sign.
 pub fn half_turn_changes_sign()
     ensures { (a : Terms) (e : Monomial) → IsExponent e → count a (turned e 256) ≡ neg_ℤ (count a e) }
-{
-}
+{}
 
 /// Two multiplications by the square root of 2 double every count.
 pub fn root2_twice_doubles()
     ensures { (a b c : Terms) → IsTimesRoot2 a b → IsTimesRoot2 b c → (e : Monomial) → IsExponent e → count c e ≡ count a e +ℤ count a e }
-{
-}
+{}

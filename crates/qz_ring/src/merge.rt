@@ -11,7 +11,12 @@ use std::alloc::Global;
 use std::cmp::Ordering;
 
 // The sum of the two lists, or, where the right one is negated, their difference.
-pub(crate) fn merge(alloc: Global, left: &[Term], right: &[Term], negated: bool) -> Result<Vec<Term>, Memory>
+pub(crate) fn merge(
+    alloc: Global,
+    left: &[Term],
+    right: &[Term],
+    negated: bool,
+) -> Result<Vec<Term>, Memory>
     requires left_canonical { IsCanonical left.now }
     requires right_canonical { IsCanonical right.now }
     requires weight { weight_of left.now + weight_of right.now ≤ 2 ^ 120 }

@@ -18,9 +18,9 @@ term_decides a b =
     let powers = Decides-and _ _ (Decides-int_eq x.x0 y.x0) (Decides-and _ _ (Decides-int_eq x.x1 y.x1) (Decides-and _ _ (Decides-int_eq x.x2 y.x2) ends)) in
     let parts = Decides-and _ _ (Decides-and _ _ (Decides-eqb x.turn y.turn) powers) (Decides-int_eq a.coefficient b.coefficient) in
     Decides-like _
-      (λ same. same_term_from_parts a b (same_from_parts x y same.0.0 same.0.1.0 same.0.1.1.0 same.0.1.1.1.0) same.1)
-      (λ same. ((ap (λ (t : Term). t.exponent.turn) same, (ap (λ (t : Term). t.exponent.x0) same, (ap (λ (t : Term). t.exponent.x1) same, (ap (λ (t : Term). t.exponent.x2) same, tt)))), ap (λ (t : Term). t.coefficient) same))
-      parts
+    (λ same. same_term_from_parts a b (same_from_parts x y same.0.0 same.0.1.0 same.0.1.1.0 same.0.1.1.1.0) same.1)
+    (λ same. ((ap (λ (t : Term). t.exponent.turn) same, (ap (λ (t : Term). t.exponent.x0) same, (ap (λ (t : Term). t.exponent.x1) same, (ap (λ (t : Term). t.exponent.x2) same, tt)))), ap (λ (t : Term). t.coefficient) same))
+    parts
 
 pub returns : goal.returns
 returns c = slice_eq-Decides term_decides c.args.left.now c.args.right.now c.eq.result c.eq.ensures
