@@ -1,5 +1,5 @@
 -- Absolute values and signs of whole numbers.
-use Rattle.std.proofs.Common.{◌≡◌, ◌+◌, ◌≤◌, true, false, Bool, ℕ, zero, suc, ℤ, pos, negsuc, ◌+ℤ◌, neg_ℤ, ◌^◌, to_z, of_z, refl, arith}
+use Rattle.std.proofs.Common.{◌≡◌, ◌+◌, ◌≤◌, true, false, Bool, ℕ, zero, suc, ℤ, pos, negsuc, ◌+ℤ◌, neg_ℤ, ◌^◌, to_z, of_z, refl, sym, subst, arith}
 use Rattle.std.specs.Prelude.{unsigned_abs}
 use Rattle.std.specs.Int.{w64, w128}
 use Rattle.std.proofs.lemmas.Int.{ints, to_z-of_z, fits_signed_from_abs}
@@ -26,9 +26,11 @@ signed-add true a b = omega (arith, ints)
 signed-add false a b = refl
 
 -- the sum of two powers, as the code makes it, is their sum
-pub power_sum : (x y p q : ℤ) → x ≡ p → y ≡ q → unsigned_abs p + unsigned_abs q ≤ 2 ^ 40 → to_z w64 (of_z w64 (to_z w64 (of_z w64 x) +ℤ to_z w64 (of_z w64 y))) ≡ p +ℤ q
-power_sum x y p q first second small =
-    let bound = unsigned_abs-add p q in
+pub power_sum : (x y p q : ℤ) → x ≡ p → y ≡ q → unsigned_abs p ≤ 2 ^ 40 → unsigned_abs (p +ℤ q) ≤ 2 ^ 40 → to_z w64 (of_z w64 (to_z w64 (of_z w64 x) +ℤ to_z w64 (of_z w64 y))) ≡ p +ℤ q
+power_sum x y p q first second small small_sum =
+    let other : q ≡ (p +ℤ q) +ℤ neg_ℤ p = omega (arith, ints) in
+    let bound : unsigned_abs q ≤ unsigned_abs (p +ℤ q) + unsigned_abs (neg_ℤ p) = subst (λ (z : ℤ). unsigned_abs z ≤ unsigned_abs (p +ℤ q) + unsigned_abs (neg_ℤ p)) (sym other) (unsigned_abs-add (p +ℤ q) (neg_ℤ p)) in
+    let same = unsigned_abs-neg p in
     rw (first, second, to_z-of_z w64 p (fits_signed_from_abs w64 p (omega arith)), to_z-of_z w64 q (fits_signed_from_abs w64 q (omega arith)), to_z-of_z w64 (p +ℤ q) (fits_signed_from_abs w64 (p +ℤ q) (omega arith))) refl
 
 -- the absolute value of a coefficient, as the code reads it

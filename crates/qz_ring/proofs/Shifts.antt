@@ -9,10 +9,10 @@ use Rattle.std.proofs.lemmas.Bool.{cases_lt}
 use Rattle.std.proofs.lemmas.Bool.Decides.{nat_tests, same_from_decides, Decides-like, Decides-eqb, Decides-int_eq}
 use Rattle.std.proofs.lemmas.Int.{ints}
 use Rattle.qz_ring.specs.Exponent.{Exponent, IsExponent, plus, minus, turned, same_powers, PowersBefore, ExponentBefore, reach_of}
-use Rattle.qz_ring.specs.Terms.{Term, Terms, signed, part_at, coefficient_at, count, weight_of, largest_reach, IsCanonical}
+use Rattle.qz_ring.specs.Terms.{Term, Terms, signed, part_at, coefficient_at, count, weight_of, largest_reach, reach_times, IsCanonical}
 use Rattle.qz_ring.specs.Shifting.{half_turned, shifted_term, IsShifted}
-use Rattle.qz_ring.proofs.Numbers.{unsigned_abs-add, unsigned_abs-signed}
-use Rattle.qz_ring.proofs.Sums.{coefficient_at-append, weight_of-append, largest_reach-append}
+use Rattle.qz_ring.proofs.Numbers.{unsigned_abs-signed}
+use Rattle.qz_ring.proofs.Sums.{coefficient_at-append, weight_of-append, largest_reach-append, reach_times-append}
 use Rattle.qz_ring.proofs.MergeSteps.{signed_nonzero}
 use Rattle.qz_ring.proofs.Canonical.{TermBefore, IsNormal, Keeps, IsCanonical-split, IsCanonical-join, IsCanonical-map}
 
@@ -52,6 +52,11 @@ weight_of-rotated ts k = omega (arith, weight_of-append (drop k ts) (take k ts),
 pub largest_reach-rotated : (ts : Terms) (k : ℕ) → largest_reach (drop k ts ++ take k ts) ≡ largest_reach ts
 largest_reach-rotated ts k = omega (arith, largest_reach-append (drop k ts) (take k ts), sym (largest_reach-append (take k ts) (drop k ts)) ∙ ap largest_reach (take-append-drop k ts))
 
+-- and so do its products
+pub reach_times-rotated : (by : Exponent) (ts : Terms) (k : ℕ) → reach_times (drop k ts ++ take k ts) by ≡ reach_times ts by
+reach_times-rotated by ts k =
+    omega (arith, reach_times-append by (drop k ts) (take k ts), sym (reach_times-append by (take k ts) (drop k ts)) ∙ ap (λ (us : Terms). reach_times us by) (take-append-drop k ts))
+
 -- and has the same coefficients
 coefficient_at-rotated : (ts : Terms) (k : ℕ) (e : Exponent) → coefficient_at (drop k ts ++ take k ts) e ≡ coefficient_at ts e
 coefficient_at-rotated ts k e =
@@ -64,20 +69,10 @@ weight_of-shifted : (by : Exponent) (ts : Terms) → weight_of (map (shifted_ter
 weight_of-shifted by [] = refl
 weight_of-shifted by (t ∷ ts) = omega (arith, unsigned_abs-signed (nat_le 256 (plus t.exponent by).turn) t.coefficient, weight_of-shifted by ts)
 
--- a product reaches at most as far as its factors together
-reach_of-plus : (a b : Exponent) → reach_of (plus a b) ≤ reach_of a + reach_of b
-reach_of-plus a b = omega (arith, unsigned_abs-add a.x0 b.x0, unsigned_abs-add a.x1 b.x1, unsigned_abs-add a.x2 b.x2)
-
--- so do shifted terms
-largest_reach-shifted : (by : Exponent) (ts : Terms) → largest_reach (map (shifted_term by) ts) ≤ largest_reach ts + reach_of by
-largest_reach-shifted by [] = omega arith
-largest_reach-shifted by (t ∷ ts) =
-    let first = reach_of-plus t.exponent by in
-    let rest = largest_reach-shifted by ts in
-    larger (reach_of (plus t.exponent by)) (largest_reach (map (shifted_term by) ts)) (reach_of t.exponent) (largest_reach ts) (reach_of by) first rest
-  where
-    larger : (a b c d r : ℕ) → a ≤ c + r → b ≤ d + r → max a b ≤ max c d + r
-    larger a b c d r first rest = omega arith
+-- shifted terms reach as far as the products
+largest_reach-shifted : (by : Exponent) (ts : Terms) → largest_reach (map (shifted_term by) ts) ≡ reach_times ts by
+largest_reach-shifted by [] = refl
+largest_reach-shifted by (t ∷ ts) = ap (max (reach_of (plus t.exponent by))) (largest_reach-shifted by ts)
 
 -- a power is the sum exactly where the other is the difference
 int_eq-moved : (x b e : ℤ) → int_eq (x +ℤ b) e ≡ int_eq x (e -ℤ b)
@@ -209,7 +204,7 @@ module _ (by : Exponent) where
         counts = λ e e_in. count-shifted by us e low_turns by_in e_in ∙ rotated_count (minus e by);
         weight = weight_of-shifted by us ∙ weight_of-rotated ts k;
         length = length-map us (shifted_term by) ∙ rotated_length;
-        reach = let reaches = largest_reach-shifted by us in rw largest_reach-rotated at reaches;
+        reach = largest_reach-shifted by us ∙ reach_times-rotated by ts k;
       }
     where
       rotated_count : (e : Exponent) → count (drop k ts ++ take k ts) e ≡ count ts e

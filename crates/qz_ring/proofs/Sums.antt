@@ -3,8 +3,9 @@ use Rattle.std.proofs.Common.{◌≡◌, ℕ, zero, suc, ◌+◌, ◌<◌, ◌�
 use Rattle.std.proofs.lemmas.List.{take_more}
 use Rattle.std.specs.Prelude.{unsigned_abs}
 use Rattle.std.proofs.lemmas.Int.{ints}
-use Rattle.qz_ring.specs.Exponent.{Exponent, same_exponent, reach_of}
-use Rattle.qz_ring.specs.Terms.{Term, Terms, part_at, coefficient_at, weight_of, largest_reach}
+use Rattle.qz_ring.specs.Exponent.{Exponent, plus, same_exponent, reach_of}
+use Rattle.qz_ring.specs.Terms.{Term, Terms, part_at, coefficient_at, weight_of, largest_reach, reach_times}
+use Rattle.qz_ring.proofs.Numbers.{unsigned_abs-add}
 
 -- the coefficients of joined lists add up
 pub coefficient_at-append : (xs ys : Terms) (e : Exponent) → coefficient_at (xs ++ ys) e ≡ coefficient_at xs e +ℤ coefficient_at ys e
@@ -54,3 +55,33 @@ weight_of-take [] zero = omega arith
 weight_of-take [] (suc i) = omega arith
 weight_of-take (t ∷ ts) zero = omega arith
 weight_of-take (t ∷ ts) (suc i) = omega (arith, weight_of-take ts i)
+
+-- the reach of the products of joined lists is the larger of the two
+pub reach_times-append : (by : Exponent) (xs ys : Terms) → reach_times (xs ++ ys) by ≡ max (reach_times xs by) (reach_times ys by)
+reach_times-append by [] ys = omega arith
+reach_times-append by (x ∷ xs) ys = omega (arith, reach_times-append by xs ys)
+
+-- each product reaches at most as far as all
+pub product_within : (ts : Terms) (by : Exponent) (k : ℕ) (t : Term) → k < length ts → t ≡ get_or ts k t → reach_of (plus t.exponent by) ≤ reach_times ts by
+product_within [] by k t in_range read = absurd (omega arith)
+product_within (x ∷ xs) by zero t in_range read =
+    rw read (let le : reach_of (plus x.exponent by) ≤ max (reach_of (plus x.exponent by)) (reach_times xs by) = omega arith in le)
+product_within (x ∷ xs) by (suc k) t in_range read =
+    let rest : reach_of (plus t.exponent by) ≤ reach_times xs by = product_within xs by k t (omega arith) read in
+    let le : (n r m : ℕ) → n ≤ m → n ≤ max r m = λ n r m h. omega arith in
+    le (reach_of (plus t.exponent by)) (reach_of (plus x.exponent by)) (reach_times xs by) rest
+
+-- a product reaches at most as far as its factors together
+reach_of-plus : (a b : Exponent) → reach_of (plus a b) ≤ reach_of a + reach_of b
+reach_of-plus a b = omega (arith, unsigned_abs-add a.x0 b.x0, unsigned_abs-add a.x1 b.x1, unsigned_abs-add a.x2 b.x2)
+
+-- so do all products
+pub reach_times_le : (ts : Terms) (by : Exponent) → reach_times ts by ≤ largest_reach ts + reach_of by
+reach_times_le [] by = omega arith
+reach_times_le (t ∷ ts) by =
+    let first = reach_of-plus t.exponent by in
+    let rest = reach_times_le ts by in
+    larger (reach_of (plus t.exponent by)) (reach_times ts by) (reach_of t.exponent) (largest_reach ts) (reach_of by) first rest
+  where
+    larger : (a b c d r : ℕ) → a ≤ c + r → b ≤ d + r → max a b ≤ max c d + r
+    larger a b c d r first rest = omega arith

@@ -1,7 +1,7 @@
 -- Sums times a monomial, and times the square root of 2.
 use Rattle.std.specs.Prelude.{◌≡◌, ◌+◌, ◌%◌, ◌≤◌, length, nat_le, ◌-ℤ◌}
-use Rattle.qz_ring.specs.Exponent.{Exponent, IsExponent, plus, minus, turn_alone, reach_of}
-use Rattle.qz_ring.specs.Terms.{Term, Terms, signed, count, weight_of, largest_reach, IsCanonical}
+use Rattle.qz_ring.specs.Exponent.{Exponent, IsExponent, plus, minus, turn_alone}
+use Rattle.qz_ring.specs.Terms.{Term, Terms, signed, count, weight_of, largest_reach, reach_times, IsCanonical}
 
 -- the exponent with its turn brought below half a circle
 abbrev pub half_turned : Exponent → Exponent
@@ -17,7 +17,7 @@ pub record IsShifted (by : Exponent) (old new : Terms) : Type 0 where
   pub counts : (e : Exponent) → IsExponent e → count new e ≡ count old (minus e by)
   pub weight : weight_of new ≡ weight_of old
   pub length : length new ≡ length old
-  pub reach : largest_reach new ≤ largest_reach old + reach_of by
+  pub reach : largest_reach new ≡ reach_times old by
 
 -- new is old times the square root of 2, which is an eighth of a turn less three eighths of a turn
 abbrev pub IsTimesRoot2 : Terms → Terms → Type 0

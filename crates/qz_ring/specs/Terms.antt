@@ -1,7 +1,7 @@
 -- Sums of monomials with whole coefficients, as lists of terms.
 use Rattle.std.specs.Prelude.{◌≡◌, ◌≢◌, ℕ, ◌+◌, ◌<◌, max, Bool, true, false, List, [], ◌∷◌, if◌then◌else◌, ℤ, pos, ◌+ℤ◌, ◌-ℤ◌, neg_ℤ, unsigned_abs}
 use Rattle.std.specs.List.{All, AllPairs}
-use Rattle.qz_ring.specs.Exponent.{Exponent, same_exponent, turned, ExponentBefore, reach_of}
+use Rattle.qz_ring.specs.Exponent.{Exponent, plus, same_exponent, turned, ExponentBefore, reach_of}
 
 -- a monomial with a whole coefficient
 pub record Term : Type 0 where
@@ -43,6 +43,11 @@ weight_of (t ∷ ts) = unsigned_abs t.coefficient + weight_of ts
 abbrev pub largest_reach : Terms → ℕ
 largest_reach [] = 0
 largest_reach (t ∷ ts) = max (reach_of t.exponent) (largest_reach ts)
+
+-- the largest absolute value of a power once each term is multiplied by the monomial
+abbrev pub reach_times : Terms → Exponent → ℕ
+reach_times [] by = 0
+reach_times (t ∷ ts) by = max (reach_of (plus t.exponent by)) (reach_times ts by)
 
 -- the one form of a sum: turns below half a circle, no coefficient 0, and rising exponents
 pub record IsCanonical (ts : Terms) : Type 0 where

@@ -2,7 +2,7 @@
 
 ghost use Rattle.std.specs.Prelude.{◌≡◌, ◌≢◌, ◌↔◌, ◌+◌, ◌*◌, ◌^◌, ◌<◌, ◌≤◌, max, pos, ◌+ℤ◌, ◌-ℤ◌, [], ◌∷◌, length, slice_get, Some, IsTrue, IfSome, IsNone, IfOk, OnOk, OnErr};
 ghost use Rattle.qz_ring.specs.Exponent.{Exponent as Monomial, IsExponent, zero_exponent, minus, reach_of, turn_alone};
-ghost use Rattle.qz_ring.specs.Terms.{Terms, count, weight_of, largest_reach};
+ghost use Rattle.qz_ring.specs.Terms.{Terms, count, weight_of, largest_reach, reach_times};
 ghost use Rattle.qz_ring.specs.Merging.{IsMerged};
 ghost use Rattle.qz_ring.specs.Shifting.{IsTimesRoot2};
 
@@ -25,7 +25,7 @@ pub struct Elem {
 
 impl Model for Elem {
     ghost use Rattle.std.specs.Prelude.{◌^◌, ◌≤◌};
-    ghost use Rattle.qz_ring.specs.Terms.{Terms, IsCanonical, weight_of, largest_reach};
+    ghost use Rattle.qz_ring.specs.Terms.{Terms, IsCanonical, weight_of, largest_reach, reach_times};
 
     ghost Value = { Terms };
 
@@ -104,13 +104,14 @@ impl Elem {
         Ok(())
     }
 
-    /// Multiplies by a monomial. Takes no memory.
+    /// Multiplies by a monomial, where the powers of each product lie from -2^40 to 2^40. Takes no
+    /// memory.
     pub fn shift(&mut self, by: Exponent)
-        requires { largest_reach self.old + reach_of by ≤ 2 ^ 40 }
+        requires { reach_times self.old by ≤ 2 ^ 40 }
         ensures counts { (e : Monomial) → IsExponent e → count self.new e ≡ count self.old (minus e by) }
         ensures weight { weight_of self.new ≡ weight_of self.old }
         ensures length { length self.new ≡ length self.old }
-        ensures reach { largest_reach self.new ≤ largest_reach self.old + reach_of by }
+        ensures reach { largest_reach self.new ≡ reach_times self.old by }
     {
         shift_terms(self.terms.as_mut_slice(), by);
     }
@@ -131,6 +132,7 @@ impl Elem {
     }
 
     // A copy of the sum, times the monomial that only turns.
+    #[tactic(auto, using(crate::proofs::Sums::reach_times_le))]
     fn turned_copy(&self, turn: u16) -> Result<Elem, Memory>
         requires { turn < 512 }
         ensures counts { IfOk result (λ turned. (e : Monomial) → IsExponent e → count turned e ≡ count self.now (minus e (turn_alone turn))) }

@@ -1,6 +1,6 @@
 //! The exponents of monomials, and their order.
 
-ghost use Rattle.std.specs.Prelude.{◌≡◌, ◌+◌, ◌^◌, ◌≤◌};
+ghost use Rattle.std.specs.Prelude.{◌≡◌, ◌^◌, ◌≤◌};
 ghost use Rattle.std.specs.Ordering.{MatchOrdering};
 ghost use Rattle.qz_ring.specs.Exponent.{ExponentBefore, plus, reach_of};
 ghost use Rattle.qz_ring.specs.Shifting.{half_turned};
@@ -63,7 +63,8 @@ fn compare_powers(a: Exponent, b: Exponent) -> Ordering
 
 // The exponent of the product of two monomials.
 pub(crate) fn product_of(a: Exponent, b: Exponent) -> Exponent
-    requires { reach_of a + reach_of b ≤ 2 ^ 40 }
+    requires factor { reach_of a ≤ 2 ^ 40 }
+    requires product { reach_of (plus a b) ≤ 2 ^ 40 }
     ensures { result ≡ plus a b }
 {
     let (p, q) = (a.powers, b.powers);

@@ -2,8 +2,7 @@
 
 ghost use Rattle.std.specs.Prelude.{◌≡◌, ◌+◌, ◌-◌, ◌%◌, ◌^◌, ◌<◌, ◌≤◌, map, length, take, drop};
 ghost use Rattle.std.specs.List.{All};
-ghost use Rattle.qz_ring.specs.Exponent.{reach_of};
-ghost use Rattle.qz_ring.specs.Terms.{weight_of, largest_reach, IsCanonical};
+ghost use Rattle.qz_ring.specs.Terms.{weight_of, largest_reach, reach_times, IsCanonical};
 ghost use Rattle.qz_ring.specs.Shifting.{shifted_term, IsShifted};
 
 use crate::exponent::Exponent;
@@ -13,7 +12,8 @@ use crate::term::{Term, shifted};
 pub(crate) fn shift_terms(terms: &mut [Term], by: Exponent)
     requires canonical { IsCanonical terms.old }
     requires weight { weight_of terms.old ≤ 2 ^ 120 }
-    requires reach { largest_reach terms.old + reach_of by ≤ 2 ^ 40 }
+    requires reach { largest_reach terms.old ≤ 2 ^ 40 }
+    requires products { reach_times terms.old by ≤ 2 ^ 40 }
     ensures { IsShifted by terms.old terms.new }
 {
     let passing = first_passing(terms, 256 - by.turn % 256);
@@ -39,7 +39,8 @@ fn first_passing(terms: &[Term], limit: u16) -> usize
 // Multiplies each term by the monomial, in its place.
 fn shift_each(terms: &mut [Term], by: Exponent)
     requires weight { weight_of terms.old ≤ 2 ^ 120 }
-    requires reach { largest_reach terms.old + reach_of by ≤ 2 ^ 40 }
+    requires reach { largest_reach terms.old ≤ 2 ^ 40 }
+    requires products { reach_times terms.old by ≤ 2 ^ 40 }
     ensures { terms.new ≡ map (shifted_term by) terms.old }
 {
     for term in terms.iter_mut() {

@@ -1,7 +1,7 @@
 //! Single terms: a monomial with a whole coefficient.
 
-ghost use Rattle.std.specs.Prelude.{◌≡◌, ◌+◌, ◌^◌, ◌≤◌, unsigned_abs};
-ghost use Rattle.qz_ring.specs.Exponent.{reach_of};
+ghost use Rattle.std.specs.Prelude.{◌≡◌, ◌^◌, ◌≤◌, unsigned_abs};
+ghost use Rattle.qz_ring.specs.Exponent.{plus, reach_of};
 ghost use Rattle.qz_ring.specs.Terms.{signed_term};
 ghost use Rattle.qz_ring.specs.Shifting.{shifted_term};
 
@@ -43,7 +43,8 @@ pub(crate) fn with_sign(term: Term, negated: bool) -> Term
 // The term times a monomial, with its turn brought below half a circle.
 pub(crate) fn shifted(term: Term, by: Exponent) -> Term
     requires weight { unsigned_abs term.coefficient ≤ 2 ^ 120 }
-    requires reach { reach_of term.exponent + reach_of by ≤ 2 ^ 40 }
+    requires factor { reach_of term.exponent ≤ 2 ^ 40 }
+    requires product { reach_of (plus term.exponent by) ≤ 2 ^ 40 }
     ensures { result ≡ shifted_term by term }
 {
     let product = product_of(term.exponent, by);

@@ -2,7 +2,7 @@ use Rattle.std.proofs.Common.{sym, ap, ◌∙◌, set, arith}
 use Rattle.std.proofs.lemmas.List.Edits.{map_over_more}
 use Rattle.qz_ring.specs.Terms.{Term}
 use Rattle.qz_ring.specs.Shifting.{shifted_term}
-use Rattle.qz_ring.proofs.Sums.{coefficient_within, reach_within}
+use Rattle.qz_ring.proofs.Sums.{coefficient_within, reach_within, product_within}
 use Rattle.qz_ring.proofs.Shifts.{unmapped}
 use Rattle.qz_ring.proofs.shift.shift_each.Goals as goal
 
@@ -14,12 +14,19 @@ shifted-requires-clause-weight c =
     let within = coefficient_within c.args.terms.now c.loop-term.term-index t (omega arith) read in
     rw (← c.term-item.is) (omega (arith, within, c.requires.weight))
 
-pub shifted-requires-clause-reach : goal.shifted-requires-clause-reach
-shifted-requires-clause-reach c =
+pub shifted-requires-clause-factor : goal.shifted-requires-clause-factor
+shifted-requires-clause-factor c =
     let t = c.term-item.result in
     let read = unmapped (shifted_term c.args.by) c.args.terms.now c.loop-term.terms c.loop-term.term-index t c.loop-term.invariant c.term-item.is in
     let within = reach_within c.args.terms.now c.loop-term.term-index t (omega arith) read in
     rw (← c.term-item.is) (omega (arith, within, c.requires.reach))
+
+pub shifted-requires-clause-product : goal.shifted-requires-clause-product
+shifted-requires-clause-product c =
+    let t = c.term-item.result in
+    let read = unmapped (shifted_term c.args.by) c.args.terms.now c.loop-term.terms c.loop-term.term-index t c.loop-term.invariant c.term-item.is in
+    let within = product_within c.args.terms.now c.args.by c.loop-term.term-index t (omega arith) read in
+    rw (← c.term-item.is) (omega (arith, within, c.requires.products))
 
 -- one more term is shifted
 pub loop-term-preserved : goal.loop-term-preserved

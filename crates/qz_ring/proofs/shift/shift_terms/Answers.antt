@@ -1,9 +1,9 @@
 use Rattle.std.proofs.Common.{◌≡◌, ◌-◌, ◌%◌, ◌<◌, ◌≤◌, take, drop, map, ap, ◌∙◌, arith}
 use Rattle.std.specs.List.{All}
 use Rattle.qz_ring.specs.Exponent.{Exponent}
-use Rattle.qz_ring.specs.Terms.{Terms, weight_of, largest_reach}
+use Rattle.qz_ring.specs.Terms.{Terms, weight_of, largest_reach, reach_times}
 use Rattle.qz_ring.specs.Shifting.{shifted_term}
-use Rattle.qz_ring.proofs.Shifts.{weight_of-rotated, largest_reach-rotated, is_shifted}
+use Rattle.qz_ring.proofs.Shifts.{weight_of-rotated, largest_reach-rotated, reach_times-rotated, is_shifted}
 use Rattle.qz_ring.proofs.shift.shift_terms.Goals as goal
 
 -- turning the list round keeps its weight
@@ -17,6 +17,12 @@ pub shift_each-requires-clause-reach : goal.shift_each-requires-clause-reach
 shift_each-requires-clause-reach c =
     let same = ap largest_reach c.rotate_left.ensures.after ∙ largest_reach-rotated c.args.terms.now c.first_passing-passing.result in
     omega (arith, same, c.requires.reach)
+
+-- and the powers of its products
+pub shift_each-requires-clause-products : goal.shift_each-requires-clause-products
+shift_each-requires-clause-products c =
+    let same = ap (λ (ts : Terms). reach_times ts c.args.by) c.rotate_left.ensures.after ∙ reach_times-rotated c.args.by c.args.terms.now c.first_passing-passing.result in
+    omega (arith, same, c.requires.products)
 
 -- so the list is shifted as a whole
 pub returns : goal.returns
