@@ -49,6 +49,7 @@ fn one_has_one_term_and_zero_none(rt: HostRuntime) -> Result<(), Fail> {
 
 // The powers of the unknowns add up, and order the terms of one turn.
 #[test]
+#[tactic(auto, using(crate::proofs::Sums::reach_times_le))]
 fn powers_add_up_and_order_the_terms(rt: HostRuntime) -> Result<(), Fail> {
     let step = Exponent {
         turn: 300,
