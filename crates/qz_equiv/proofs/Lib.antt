@@ -6,3 +6,5 @@ pub mod WorkedValues
 pub mod GatheredLemmas
 pub mod PushLemmas
 pub mod ColumnLemmas
+pub mod PhaseLemmas
+pub mod DecisionLemmas
