@@ -21,6 +21,8 @@ mod gate_way;
 pub mod laws;
 mod matrix;
 mod phase;
+#[cfg(test)]
+mod tests;
 pub mod worked_values;
 
 // How many gates are H.
