@@ -1,0 +1,151 @@
+-- The monomials that can take one matrix to another are found among the exponents of one entry.
+use Rattle.std.proofs.Common.{◌≡◌, ◌≢◌, ℕ, zero, suc, ◌+◌, ◌-◌, ◌%◌, ◌^◌, ◌<◌, ◌≤◌, max, Bool, true, false, not, List, [], ◌∷◌, length, Option, Some, None, ℤ, pos, ◌+ℤ◌, ◌-ℤ◌, neg_ℤ, to_z, of_z, sym, ap, subst, ◌∙◌, refl, arith, ◌⊎◌, inl, inr, ⊎_elim}
+use Rattle.std.specs.Prelude.{unsigned_abs, slice_get, if◌then◌else◌, IsTrue, ◌↔◌, is_some, MatchOption}
+use Rattle.std.specs.Bool.{Decides}
+use Rattle.std.specs.Int.{w64}
+use Rattle.std.proofs.lemmas.Int.{ints, to_z-of_z, fits_signed_from_abs}
+use Rattle.qz_ring.specs.Exponent.{Exponent as Monomial, IsExponent as IsMonomial, minus, plus, turned, zero_exponent, reach_of, same_exponent}
+use Rattle.qz_ring.specs.Terms.{Term, Terms, count, coefficient_at, largest_reach}
+use Rattle.qz_ring.proofs.Numbers.{unsigned_abs-add, unsigned_abs-neg}
+use Rattle.qz_ring.proofs.Order.{same_from_parts, same_exponent-decides}
+use Rattle.qz_equiv.specs.Entries.{row, column}
+use Rattle.qz_equiv.specs.Phases.{IsShift, IsColumnShift, IsMatrixShift, HasPhase, IsLead, IsZeroColumn, IsPivotOfColumn, IsZeroMatrix, IsPivot, FailsAt, SameShape}
+
+-- the difference of two powers, as the code makes it, is their difference
+pub power_difference : (x y p q : ℤ) → x ≡ p → y ≡ q → unsigned_abs p ≤ 100 → unsigned_abs q ≤ 100 → to_z w64 (of_z w64 (to_z w64 (of_z w64 x) -ℤ to_z w64 (of_z w64 y))) ≡ p -ℤ q
+power_difference x y p q first second small_p small_q =
+    let bound : unsigned_abs (p -ℤ q) ≤ 200 = omega (arith, unsigned_abs-add p (neg_ℤ q), unsigned_abs-neg q) in
+    rw (first, second, to_z-of_z w64 p (fits_signed_from_abs w64 p (omega arith)), to_z-of_z w64 q (fits_signed_from_abs w64 q (omega arith)), to_z-of_z w64 (p -ℤ q) (fits_signed_from_abs w64 (p -ℤ q) (omega arith))) refl
+
+-- a quotient's powers are at most as large as both powers together
+pub reach_of-minus : (a b : Monomial) → reach_of a ≤ 100 → reach_of b ≤ 100 → reach_of (minus a b) ≤ 200
+reach_of-minus a b small_a small_b =
+    omega (arith, unsigned_abs-add a.x0 (neg_ℤ b.x0), unsigned_abs-neg b.x0, unsigned_abs-add a.x1 (neg_ℤ b.x1), unsigned_abs-neg b.x1, unsigned_abs-add a.x2 (neg_ℤ b.x2), unsigned_abs-neg b.x2)
+
+-- one of two tests holds, where the first one fails
+pub second_way : {P Q : Type 0} (a b : Bool) → a ≡ false → (IsTrue a ↔ P) → (IsTrue b ↔ Q) → (IsTrue b ↔ (P ⊎ Q))
+second_way {P} {Q} a b fails first second =
+    let never : P → ⊥ = λ p. clash a fails (first.1 p) in
+    (λ h. inr (second.0 h), λ h. ⊎_elim (λ p. absurd (never p)) (λ q. second.1 q) h)
+  where
+    clash : (a : Bool) → a ≡ false → a ≡ true → ⊥
+    clash a f t = cc
+
+-- a term's powers are at most the largest
+pub reach_at : (ts : Terms) (k : ℕ) (t : Term) → slice_get ts k ≡ Some t → reach_of t.exponent ≤ largest_reach ts
+reach_at [] k t h = cc
+reach_at (u ∷ ts) zero t h =
+    let same : reach_of u.exponent ≡ reach_of t.exponent = first u t h in
+    omega (arith, same)
+  where
+    first : (u t : Term) → Some u ≡ Some t → reach_of u.exponent ≡ reach_of t.exponent
+    first u t h = let same : u ≡ t = cc in ap (λ (t : Term). reach_of t.exponent) same
+reach_at (u ∷ ts) (suc k) t h = omega (arith, reach_at ts k t h)
+
+-- a coefficient that isn't 0 is that of a term with the exponent
+pub record HasTerm (ts : Terms) (e : Monomial) : Type 0 where
+  pub place : ℕ
+  pub term : Term
+  pub there : slice_get ts place ≡ Some term
+  pub within : place < length ts
+  pub exponent : term.exponent ≡ e
+
+term_before : (t : Term) (ts : Terms) (e : Monomial) → HasTerm ts e → HasTerm (t ∷ ts) e
+term_before t ts e h = record { place = suc h.place; term = h.term; there = h.there; within = omega (arith, h.within); exponent = h.exponent }
+
+no_part : (t : Term) (ts : Terms) (e : Monomial) → same_exponent t.exponent e ≡ false → coefficient_at ts e ≡ pos 0 → coefficient_at (t ∷ ts) e ≡ pos 0
+no_part t ts e is none = rw is (omega (arith, ints))
+
+one_more : (t : Term) (ts : Terms) (e : Monomial) (b : Bool) → same_exponent t.exponent e ≡ b → (coefficient_at ts e ≡ pos 0) ⊎ HasTerm ts e → (coefficient_at (t ∷ ts) e ≡ pos 0) ⊎ HasTerm (t ∷ ts) e
+one_more t ts e true is rest = inr (record { place = 0; term = t; there = refl; within = omega arith; exponent = (same_exponent-decides t.exponent e).0 is })
+one_more t ts e false is rest = ⊎_elim (λ none. inl (no_part t ts e is none)) (λ some. inr (term_before t ts e some)) rest
+
+coefficient_none_or_some : (ts : Terms) (e : Monomial) → (coefficient_at ts e ≡ pos 0) ⊎ HasTerm ts e
+coefficient_none_or_some [] e = inl refl
+coefficient_none_or_some (t ∷ ts) e = one_more t ts e (same_exponent t.exponent e) refl (coefficient_none_or_some ts e)
+
+-- a count that isn't 0 is that of a term with the exponent or with half a turn more
+pub counted_term : (ts : Terms) (e : Monomial) → count ts e ≢ pos 0 → HasTerm ts e ⊎ HasTerm ts (turned e 256)
+counted_term ts e counted =
+    ⊎_elim
+      (λ none. ⊎_elim (λ none_half. absurd (counted (neither none none_half))) (λ some. inr some) (coefficient_none_or_some ts (turned e 256)))
+      (λ some. inl some)
+      (coefficient_none_or_some ts e)
+  where
+    neither : coefficient_at ts e ≡ pos 0 → coefficient_at ts (turned e 256) ≡ pos 0 → count ts e ≡ pos 0
+    neither h k = omega (arith, ints)
+
+-- the quotient by the quotient is the divisor
+minus_twice : (e u : Monomial) → IsMonomial e → IsMonomial u → minus e (minus e u) ≡ u
+minus_twice e u he hu = same_from_parts (minus e (minus e u)) u (omega arith) (omega (arith, ints)) (omega (arith, ints)) (omega (arith, ints))
+
+minus_turned : (e u : Monomial) → IsMonomial e → IsMonomial u → turned (minus e (turned (minus e u) 256)) 256 ≡ u
+minus_turned e u he hu = same_from_parts (turned (minus e (turned (minus e u) 256)) 256) u (omega arith) (omega (arith, ints)) (omega (arith, ints)) (omega (arith, ints))
+
+-- where every candidate fails, no monomial takes y to x
+pub no_phase : (lead : Monomial) (x y : List (List Terms)) (other : Terms) → IsMonomial lead → ((u : Monomial) → IsMonomial u → IsMatrixShift u x y → count other (minus lead u) ≢ pos 0) → ((k : ℕ) → k < length other → FailsAt lead x y other k) → HasPhase x y → ⊥
+no_phase lead x y other proper counted fails phase =
+    ⊎_elim
+      (λ some.
+        let same : minus lead some.term.exponent ≡ phase.0 = ap (minus lead) some.exponent ∙ minus_twice lead phase.0 proper phase.1 in
+        fails some.place some.within some.term some.there (inl (subst (λ (u : Monomial). IsMatrixShift u x y) (sym same) phase.2)))
+      (λ some.
+        let same : turned (minus lead some.term.exponent) 256 ≡ phase.0 = ap (λ (e : Monomial). turned (minus lead e) 256) some.exponent ∙ minus_turned lead phase.0 proper phase.1 in
+        fails some.place some.within some.term some.there (inr (subst (λ (u : Monomial). IsMatrixShift u x y) (sym same) phase.2)))
+      (counted_term other (minus lead phase.0) (counted phase.0 phase.1 phase.2))
+
+-- a candidate that passes is a phase
+pub candidate_phase : (by : Monomial) (x y : List (List Terms)) → IsMonomial by → IsMatrixShift by x y ⊎ IsMatrixShift (turned by 256) x y → HasPhase x y
+candidate_phase by x y proper h = ⊎_elim (λ same. (by, proper, same)) (λ same. (turned by 256, omega arith, same)) h
+
+-- the pivot's exponent is counted in the same entry of y
+pub pivot_counted : (x y : List (List Terms)) (j i : ℕ) (lead : Monomial) → IsPivot x (j, i, lead) → (u : Monomial) → IsMonomial u → IsMatrixShift u x y → count (row (column y j) i) (minus lead u) ≢ pos 0
+pivot_counted x y j i lead is u proper shift none = is.1.1.counted (shift j is.0 i is.1.0 lead is.1.1.proper ∙ none)
+
+-- two zero matrices are equal up to any phase
+pub zero_phase : (x y : List (List Terms)) → SameShape x y → IsZeroMatrix x → IsZeroMatrix y → HasPhase x y
+zero_phase x y shape zero_x zero_y = (zero_exponent, omega arith, λ j hj i hi e he.
+    ap (λ ts. count ts e) (zero_x j hj i hi) ∙
+    sym (ap (λ ts. count ts (minus e zero_exponent)) (zero_y j (subst (λ n. j < n) shape.columns hj) i (subst (λ n. i < n) (shape.rows j hj) hi))))
+
+-- a matrix that is zero isn't a monomial times one that isn't
+pub zero_no_phase : (x y : List (List Terms)) → SameShape x y → IsZeroMatrix x → (found : ℕ × ℕ × Monomial) → IsPivot y found → HasPhase x y → ⊥
+zero_no_phase x y shape zero_x found is phase =
+    let hj : found.0 < length x = subst (λ n. found.0 < n) (sym shape.columns) is.0 in
+    let hi : found.1 < length (column x found.0) = subst (λ n. found.1 < n) (sym (shape.rows found.0 hj)) is.1.0 in
+    let moved : minus (plus found.2 phase.0) phase.0 ≡ found.2 = plus_minus found.2 phase.0 is.1.1.proper phase.1 in
+    let none : pos 0 ≡ count (row (column y found.0) found.1) (minus (plus found.2 phase.0) phase.0) = sym (ap (λ ts. count ts (plus found.2 phase.0)) (zero_x found.0 hj found.1 hi)) ∙ phase.2 found.0 hj found.1 hi (plus found.2 phase.0) (omega arith) in
+    is.1.1.counted (sym (none ∙ ap (count (row (column y found.0) found.1)) moved))
+  where
+    plus_minus : (e u : Monomial) → IsMonomial e → IsMonomial u → minus (plus e u) u ≡ e
+    plus_minus e u he hu = same_from_parts (minus (plus e u) u) e (omega arith) (omega (arith, ints)) (omega (arith, ints)) (omega (arith, ints))
+
+-- the answer for a matrix that is zero
+pub zero_case : (x y : List (List Terms)) → SameShape x y → IsZeroMatrix x → (o : Option (ℕ × ℕ × Monomial)) (b : Bool) → is_some o ≡ not b → MatchOption o (IsZeroMatrix y) (IsPivot y) → (IsTrue b ↔ HasPhase x y)
+zero_case x y shape zero_x None true is zero_y = (λ _. zero_phase x y shape zero_x zero_y, λ _. refl)
+zero_case x y shape zero_x None false is zero_y = cc
+zero_case x y shape zero_x (Some found) true is pivot = cc
+zero_case x y shape zero_x (Some found) false is pivot = (λ h. absurd (clash h), λ phase. absurd (zero_no_phase x y shape zero_x found pivot phase))
+  where
+    clash : false ≡ true → ⊥
+    clash h = cc
+
+-- where both candidates of a term fail
+pub candidate_fails : (lead by : Monomial) (x y : List (List Terms)) (other : Terms) (k : ℕ) (t : Term) (same : Bool) → by ≡ minus lead t.exponent → slice_get other k ≡ Some t → same ≡ false → (IsTrue same ↔ (IsMatrixShift by x y ⊎ IsMatrixShift (turned by 256) x y)) → FailsAt lead x y other k
+candidate_fails lead by x y other k t same by_is there fails told u also h =
+    let same_term : t ≡ u = cc in
+    let candidate : by ≡ minus lead u.exponent = by_is ∙ ap (λ (t : Term). minus lead t.exponent) same_term in
+    clash same fails (told.1 (subst (λ (v : Monomial). IsMatrixShift v x y ⊎ IsMatrixShift (turned v 256) x y) (sym candidate) h))
+  where
+    clash : (b : Bool) → b ≡ false → b ≡ true → ⊥
+    clash b h k = cc
+
+-- the answers of a search that found a phase, and of one that found none
+pub found_phase : (x y : List (List Terms)) → HasPhase x y → (IsTrue true ↔ HasPhase x y)
+found_phase x y h = (λ _. h, λ _. refl)
+
+pub found_none : (x y : List (List Terms)) → (HasPhase x y → ⊥) → (IsTrue false ↔ HasPhase x y)
+found_none x y h = (λ t. absurd (clash t), λ phase. absurd (h phase))
+  where
+    clash : false ≡ true → ⊥
+    clash t = cc

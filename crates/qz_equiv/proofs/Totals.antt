@@ -1,0 +1,144 @@
+-- What ways count: ways end to end, ways times one way, and ways times the square root of two.
+use Rattle.std.proofs.Common.{◌≡◌, ℕ, zero, suc, ◌+◌, ◌-◌, ◌%◌, ◌<◌, Bool, true, false, cond, List, [], ◌∷◌, ◌++◌, map, sym, ap, ◌∙◌, refl, arith, rules}
+use Rattle.std.specs.Prelude.{ℤ, pos, negsuc, ◌+ℤ◌, ◌-ℤ◌, ◌*ℤ◌, neg_ℤ, if◌then◌else◌}
+use Rattle.std.specs.List.{flat_map, AllByRecursion}
+use Rattle.std.proofs.lemmas.Int.{ints}
+use Rattle.std.proofs.lemmas.List.Concat.{flat_map-append}
+use Rattle.qz_circ.specs.Exponent.{Exponent, IsExponent, zero_exponent, plus, minus, turned, same_exponent, turn_of}
+use Rattle.qz_circ.specs.Paths.{Path, Ways, total, count, times, products, way_if, root2_once, root2}
+use Rattle.qz_equiv.specs.Entries.{AreProper, signed, sign_of, one_way}
+use Rattle.qz_equiv.proofs.Exponents.{same_like, plus_there, plus_back, minus_proper, turned_proper, turned-minus, exponent_eq, half_twice}
+
+pub AreProper-append : (ps rs : List Path) → AreProper ps → AreProper rs → AreProper (ps ++ rs)
+AreProper-append [] rs h k = k
+AreProper-append (p ∷ ps) rs h k = (h.0, AreProper-append ps rs h.1 k)
+
+-- times a sign
+pub times-sign : (b : Bool) (z : ℤ) → z *ℤ sign_of b ≡ signed b z
+times-sign true z = omega (arith, ints)
+times-sign false z = omega (arith, ints)
+
+pub signed-add : (b : Bool) (y z : ℤ) → signed b (y +ℤ z) ≡ signed b y +ℤ signed b z
+signed-add true y z = omega (arith, ints)
+signed-add false y z = refl
+
+pub signed-sub : (b : Bool) (y z : ℤ) → signed b (y -ℤ z) ≡ signed b y -ℤ signed b z
+signed-sub true y z = omega (arith, ints)
+signed-sub false y z = refl
+
+-- ways end to end
+pub total-append : (ps rs : List Path) (e : Exponent) → total (ps ++ rs) e ≡ total ps e +ℤ total rs e
+unfolding total
+total-append [] rs e = omega (arith, ints)
+total-append (p ∷ ps) rs e = let rest = total-append ps rs e in omega (arith, ints)
+
+pub count-none : (e : Exponent) → count [] e ≡ pos 0
+unfolding count total
+count-none e = refl
+
+pub count-append : (ps rs : List Path) (e : Exponent) → count (ps ++ rs) e ≡ count ps e +ℤ count rs e
+unfolding count
+count-append ps rs e = let here = total-append ps rs e in let half = total-append ps rs (turned e 256) in omega (arith, ints)
+
+-- the exponents of products are proper
+pub AreProper-products : (ps rs : List Path) → AreProper (products ps rs)
+AreProper-products [] rs = tt
+AreProper-products (p ∷ ps) rs = AreProper-append (map (times p) rs) (products ps rs) (row p rs) (AreProper-products ps rs)
+  where
+    row : (p : Path) (rs : List Path) → AreProper (map (times p) rs)
+    row p [] = tt
+    row p (r ∷ rs) = (omega arith, row p rs)
+
+-- what one way adds to the total
+part_times : (b : Bool) (p : Path) (x e : Exponent) → IsExponent p.exponent → IsExponent x → IsExponent e → (if same_exponent (plus p.exponent x) e then p.sign *ℤ sign_of b else pos 0) ≡ signed b (if same_exponent p.exponent (minus e x) then p.sign else pos 0)
+part_times b p x e hp hx he =
+    let tests = same_like (plus p.exponent x) e p.exponent (minus e x) (plus_there p.exponent x e hp hx he) (plus_back p.exponent x e hp hx he) in
+    rw tests (picked b p.sign (same_exponent p.exponent (minus e x)))
+  where
+    picked : (b : Bool) (s : ℤ) (t : Bool) → (if t then s *ℤ sign_of b else pos 0) ≡ signed b (if t then s else pos 0)
+    picked b s true = times-sign b s
+    picked true s false = refl
+    picked false s false = refl
+
+pub total-times_one : (b : Bool) (x : Exponent) (ps : List Path) (e : Exponent) → AreProper ps → IsExponent x → IsExponent e → total (products ps (one_way b x)) e ≡ signed b (total ps (minus e x))
+unfolding total
+total-times_one true x [] e hp hx he = refl
+total-times_one false x [] e hp hx he = refl
+total-times_one b x (p ∷ ps) e hp hx he =
+    let rest = total-times_one b x ps e hp.1 hx he in
+    let here = part_times b p x e hp.0 hx he in
+    let both = signed-add b (if same_exponent p.exponent (minus e x) then p.sign else pos 0) (total ps (minus e x)) in
+    (λ i. here i +ℤ rest i) ∙ sym both
+
+pub total-times_none : (ps : List Path) (e : Exponent) → total (products ps []) e ≡ pos 0
+unfolding total
+total-times_none [] e = refl
+total-times_none (p ∷ ps) e = total-times_none ps e
+
+-- ways times one way
+pub count-times_one : (b : Bool) (x : Exponent) (ps : List Path) (e : Exponent) → AreProper ps → IsExponent x → IsExponent e → count (products ps (one_way b x)) e ≡ signed b (count ps (minus e x))
+unfolding count
+count-times_one b x ps e hp hx he =
+    let here = total-times_one b x ps e hp hx he in
+    let half = total-times_one b x ps (turned e 256) hp hx (turned_proper e 256) ∙ ap (λ y. signed b (total ps y)) (turned-minus e x 256) in
+    (λ i. here i -ℤ half i) ∙ sym (signed-sub b (total ps (minus e x)) (total ps (turned (minus e x) 256)))
+
+pub count-times_none : (ps : List Path) (e : Exponent) → count (products ps []) e ≡ pos 0
+unfolding count
+count-times_none ps e = let here = total-times_none ps e in let half = total-times_none ps (turned e 256) in omega (arith, ints)
+
+-- ways times the square root of two are proper
+pub AreProper-root2_once : (ps : List Path) → AreProper (root2_once ps)
+unfolding root2_once
+AreProper-root2_once [] = tt
+AreProper-root2_once (p ∷ ps) = (omega arith, (omega arith, AreProper-root2_once ps))
+
+-- to turn on is to multiply by a turn alone
+plus-turn_of : (p : Exponent) (k : ℕ) → plus p (turn_of k) ≡ turned p k
+plus-turn_of p k = exponent_eq (plus p (turn_of k)) (turned p k) (omega arith) (omega (arith, ints)) (omega (arith, ints)) (omega (arith, ints))
+
+-- what one way adds, turned
+part_turned : (s : ℤ) (p : Exponent) (k : ℕ) (e : Exponent) → IsExponent p → IsExponent e → (if same_exponent (turned p k) e then s else pos 0) ≡ (if same_exponent p (minus e (turn_of k)) then s else pos 0)
+part_turned s p k e hp he =
+    let turn_proper : IsExponent (turn_of k) = omega arith in
+    let same = plus-turn_of p k in
+    ap (λ (t : Bool). if t then s else pos 0)
+      (same_like (turned p k) e p (minus e (turn_of k)) (λ h. plus_there p (turn_of k) e hp turn_proper he (same ∙ h)) (λ h. sym same ∙ plus_back p (turn_of k) e hp turn_proper he h))
+
+-- the opposite of what one way adds
+part_negated : (s : ℤ) (t : Bool) → (if t then neg_ℤ s else pos 0) ≡ neg_ℤ (if t then s else pos 0)
+part_negated s true = refl
+part_negated s false = refl
+
+-- a part added, less a part taken away
+added : (r a b x y c d : ℤ) → r ≡ c -ℤ d → a ≡ x → b ≡ neg_ℤ y → a +ℤ (b +ℤ r) ≡ (x +ℤ c) -ℤ (y +ℤ d)
+added r a b x y c d h k l = omega (arith, ints)
+
+-- ways times the square root of two
+pub total-root2_once : (ps : List Path) (e : Exponent) → AreProper ps → IsExponent e → total (root2_once ps) e ≡ total ps (minus e (turn_of 64)) -ℤ total ps (minus e (turn_of 192))
+unfolding total root2_once
+total-root2_once [] e hp he = refl
+total-root2_once (p ∷ ps) e hp he =
+    let rest = total-root2_once ps e hp.1 he in
+    let first = part_turned p.sign p.exponent 64 e hp.0 he in
+    let second = part_turned (neg_ℤ p.sign) p.exponent 192 e hp.0 he ∙ part_negated p.sign (same_exponent p.exponent (minus e (turn_of 192))) in
+    added _ _ _ _ _ _ _ rest first second
+
+pub count-root2_once : (ps : List Path) (e : Exponent) → AreProper ps → IsExponent e → count (root2_once ps) e ≡ count ps (minus e (turn_of 64)) -ℤ count ps (minus e (turn_of 192))
+unfolding count
+count-root2_once ps e hp he =
+    let here = total-root2_once ps e hp he in
+    let half = total-root2_once ps (turned e 256) hp (turned_proper e 256) in
+    let left = ap (total ps) (turned-minus e (turn_of 64) 256) in
+    let right = ap (total ps) (turned-minus e (turn_of 192) 256) in
+    omega (arith, ints)
+
+pub AreProper-root2 : (t : ℕ) (ps : List Path) → AreProper ps → AreProper (root2 t ps)
+unfolding root2
+AreProper-root2 zero ps h = h
+AreProper-root2 (suc t) ps h = AreProper-root2_once (root2 t ps)
+
+-- half a turn on, the count is the opposite
+pub count-turned : (ps : List Path) (e : Exponent) → IsExponent e → count ps (turned e 256) ≡ neg_ℤ (count ps e)
+unfolding count
+count-turned ps e he = let twice = ap (total ps) (half_twice e he) in omega (arith, ints)

@@ -1,0 +1,61 @@
+-- Two pairs of circuits: one is equivalent by a phase that is a parameter, one is not equivalent.
+use Rattle.std.proofs.Common.{◌≡◌, ℕ, zero, suc, ◌+◌, ◌-◌, ◌%◌, ◌<◌, List, [], ◌∷◌, Bool, true, false, sym, ap, subst, ◌∙◌, refl, arith}
+use Rattle.std.specs.Prelude.{ℤ, pos, negsuc, ◌+ℤ◌, ◌-ℤ◌, if◌then◌else◌}
+use Rattle.std.proofs.lemmas.Int.{ints}
+use Rattle.qz_circ.specs.declared.circuit.Expr.TheVariants.{Const, Plus, Minus}
+use Rattle.qz_circ.specs.declared.circuit.Op.TheVariants.{X, Rz}
+use Rattle.qz_circ.specs.Circuit.{Circuit}
+use Rattle.qz_circ.specs.Exponent.{Exponent, IsExponent, zero_exponent, minus, param, same_exponent, turned, turn_of}
+use Rattle.qz_circ.specs.Paths.{Path, Ways, count, total, paths, through, entry, stay, root2}
+use Rattle.qz_circ.specs.Equivalence.{scaled, SameUpTo, Equivalent}
+use Rattle.qz_equiv.proofs.Exponents.{exponent_eq, Decides-same_exponent}
+use Rattle.qz_equiv.proofs.Totals.{count-times_one}
+
+-- a flip and then a turn by the parameter, and a turn by its negative and then a flip
+abbrev flip_first : Circuit
+flip_first = X 0 ∷ Rz 0 (Plus 0) ∷ []
+
+abbrev flip_last : Circuit
+flip_last = Rz 0 (Minus 0) ∷ X 0 ∷ []
+
+-- the same counts, but for the parameter
+flip_counts : (i j : ℕ) (e : Exponent) → i < 2 → j < 2 → IsExponent e → count (scaled 1 flip_first flip_last i j) e ≡ count (scaled 1 flip_last flip_first i j) (minus e (param 0))
+unfolding scaled root2 paths through stay entry count total
+flip_counts zero zero e hi hj he = refl
+flip_counts zero (suc zero) e hi hj he = count-times_one false (param 0) (record { sign = pos 1; exponent = minus zero_exponent (param 0) } ∷ []) e (omega arith, tt) (omega arith) he
+flip_counts (suc zero) zero e hi hj he = count-times_one false (param 0) (record { sign = pos 1; exponent = zero_exponent } ∷ []) e (omega arith, tt) (omega arith) he
+flip_counts (suc zero) (suc zero) e hi hj he = refl
+flip_counts (suc (suc i)) j e hi hj he = absurd (omega arith)
+flip_counts i (suc (suc j)) e hi hj he = absurd (omega arith)
+
+-- the phase is the parameter
+pub flip_equivalent : Equivalent 1 (X 0 ∷ Rz 0 (Plus 0) ∷ []) (Rz 0 (Minus 0) ∷ X 0 ∷ [])
+flip_equivalent = (param 0, record { phase = omega arith; counts = flip_counts })
+
+-- a count of 1 at a single way says that the exponent is the way's
+counted_once : (s t : Bool) → pos 1 ≡ ((if s then pos 1 else pos 0) +ℤ pos 0) -ℤ ((if t then pos 1 else pos 0) +ℤ pos 0) → s ≡ true
+counted_once true t h = refl
+counted_once false true h = cc
+counted_once false false h = cc
+
+-- a phase that takes 1 to 1 is 1
+phase_one : (u : Exponent) → IsExponent u → zero_exponent ≡ minus zero_exponent u → u ≡ zero_exponent
+phase_one u hu h =
+    let turn : 0 ≡ (0 + (512 - u.turn)) % 512 = ap (λ (x : Exponent). x.turn) h in
+    let x0 : pos 0 ≡ pos 0 -ℤ u.x0 = ap (λ (x : Exponent). x.x0) h in
+    let x1 : pos 0 ≡ pos 0 -ℤ u.x1 = ap (λ (x : Exponent). x.x1) h in
+    let x2 : pos 0 ≡ pos 0 -ℤ u.x2 = ap (λ (x : Exponent). x.x2) h in
+    exponent_eq u zero_exponent (omega arith) (omega (arith, ints)) (omega (arith, ints)) (omega (arith, ints))
+
+-- two turns by different constants
+pub turns_different : Equivalent 1 (Rz 0 (Const 1) ∷ []) (Rz 0 (Const 2) ∷ []) → ⊥
+unfolding scaled root2 paths through stay entry count total
+turns_different h =
+    let at_zero = h.1.counts 0 0 zero_exponent (omega arith) (omega arith) (omega arith) in
+    let same = counted_once (same_exponent zero_exponent (minus zero_exponent h.0)) (same_exponent zero_exponent (turned (minus zero_exponent h.0) 256)) at_zero in
+    let one = phase_one h.0 h.1.phase ((Decides-same_exponent zero_exponent (minus zero_exponent h.0)).0 same) in
+    let at_one = subst (λ (u : Exponent). count (record { sign = pos 1; exponent = turn_of 64 } ∷ []) (turn_of 64) ≡ count (record { sign = pos 1; exponent = turn_of 128 } ∷ []) (minus (turn_of 64) u)) one (h.1.counts 1 1 (turn_of 64) (omega arith) (omega arith) (omega arith)) in
+    absurd (one_zero at_one)
+  where
+    one_zero : pos 1 ≡ pos 0 → ⊥
+    one_zero h = cc

@@ -1,0 +1,6 @@
+use Rattle.std.proofs.Common.{ℕ, ◌<◌}
+use Rattle.qz_equiv.specs.Phases.{FailsAt}
+use Rattle.qz_equiv.proofs.phase.has_candidate.Given as goal
+
+abbrev pub invariant-loop-k : goal.invariant-loop-k
+invariant-loop-k l = (k : ℕ) → k < l.k → FailsAt l.lead l.x l.y l.other k

@@ -1,0 +1,60 @@
+-- When one matrix is a monomial times another, and the monomials that can be.
+use Rattle.std.specs.Prelude.{◌≡◌, ◌≢◌, ℕ, ◌<◌, ◌≤◌, ◌⊎◌, List, [], length, pos, Some, slice_get}
+use Rattle.qz_ring.specs.Exponent.{Exponent as Monomial, IsExponent as IsMonomial, minus, turned, reach_of}
+use Rattle.qz_ring.specs.Terms.{Term, Terms, count, largest_reach}
+use Rattle.qz_equiv.specs.Entries.{row, column}
+
+-- x has the counts of the monomial times y
+abbrev pub IsShift : Monomial → Terms → Terms → Type 0
+IsShift by x y = (e : Monomial) → IsMonomial e → count x e ≡ count y (minus e by)
+
+-- each entry of x has the counts of the monomial times that of y
+abbrev pub IsColumnShift : Monomial → List Terms → List Terms → Type 0
+IsColumnShift by x y = (i : ℕ) → i < length x → IsShift by (row x i) (row y i)
+
+-- each column of x has the counts of the monomial times that of y
+abbrev pub IsMatrixShift : Monomial → List (List Terms) → List (List Terms) → Type 0
+IsMatrixShift by x y = (j : ℕ) → j < length x → IsColumnShift by (column x j) (column y j)
+
+-- some monomial takes y to x
+abbrev pub HasPhase : List (List Terms) → List (List Terms) → Type 0
+HasPhase x y = (u : Monomial) × IsMonomial u × IsMatrixShift u x y
+
+-- the exponent is one that the terms count
+pub record IsLead (ts : Terms) (lead : Monomial) : Type 0 where
+  pub proper : IsMonomial lead
+  pub counted : count ts lead ≢ pos 0
+  pub reach : reach_of lead ≤ largest_reach ts
+
+-- every entry of the column is zero
+abbrev pub IsZeroColumn : List Terms → Type 0
+IsZeroColumn entries = (i : ℕ) → i < length entries → row entries i ≡ []
+
+-- every column is zero
+abbrev pub IsZeroMatrix : List (List Terms) → Type 0
+IsZeroMatrix matrix = (j : ℕ) → j < length matrix → IsZeroColumn (column matrix j)
+
+-- a row of the column, and an exponent that its entry counts
+abbrev pub IsPivotOfColumn : List Terms → ℕ × Monomial → Type 0
+IsPivotOfColumn entries found = (found.0 < length entries) × IsLead (row entries found.0) found.1
+
+-- a column, a row of it, and an exponent that the entry there counts
+abbrev pub IsPivot : List (List Terms) → ℕ × ℕ × Monomial → Type 0
+IsPivot matrix found = (found.0 < length matrix) × IsPivotOfColumn (column matrix found.0) (found.1, found.2)
+
+-- neither monomial that takes the term at place k to the lead takes y to x
+abbrev pub FailsAt : Monomial → List (List Terms) → List (List Terms) → Terms → ℕ → Type 0
+FailsAt lead x y other k = (t : Term) → slice_get other k ≡ Some t → IsMatrixShift (minus lead t.exponent) x y ⊎ IsMatrixShift (turned (minus lead t.exponent) 256) x y → ⊥
+
+-- the powers in the column are small
+abbrev pub IsLow : List Terms → Type 0
+IsLow entries = (i : ℕ) → i < length entries → largest_reach (row entries i) ≤ 100
+
+-- the powers in the matrix are small
+abbrev pub AreLow : List (List Terms) → Type 0
+AreLow matrix = (j : ℕ) → j < length matrix → IsLow (column matrix j)
+
+-- both matrices have as many columns, and as many rows in each
+pub record SameShape (x y : List (List Terms)) : Type 0 where
+  pub columns : length x ≡ length y
+  pub rows : (j : ℕ) → j < length x → length (column x j) ≡ length (column y j)

@@ -1,0 +1,227 @@
+//! Sums of monomials with whole coefficients.
+
+ghost use Rattle.std.specs.Prelude.{◌≡◌, ◌≢◌, ◌↔◌, ◌+◌, ◌*◌, ◌^◌, ◌<◌, ◌≤◌, max, pos, ◌+ℤ◌, ◌-ℤ◌, [], ◌∷◌, length, slice_get, Some, IsTrue, IfSome, IsNone, IfOk, OnOk, OnErr};
+ghost use Rattle.qz_ring.specs.Exponent.{Exponent as Monomial, IsExponent, zero_exponent, minus, reach_of, turn_alone};
+ghost use Rattle.qz_ring.specs.Terms.{Terms, count, weight_of, largest_reach, reach_times};
+ghost use Rattle.qz_ring.specs.Merging.{IsMerged};
+ghost use Rattle.qz_ring.specs.Shifting.{IsTimesRoot2};
+
+use crate::Memory;
+use crate::exponent::Exponent;
+use crate::merge::merge;
+use crate::shift::shift_terms;
+use crate::term::Term;
+use std::alloc::Global;
+use std::marker::Model;
+
+/// A sum of monomials with whole coefficients, in its one form: the list of its terms, with turns
+/// below 256, no coefficient 0, and exponents that rise by turn and then by the powers.
+///
+/// The absolute coefficients sum to at most 2^120, and the powers lie from -2^40 to 2^40.
+#[derive(Debug, Drop)]
+pub struct Elem {
+    terms: Vec<Term>,
+}
+
+impl Model for Elem {
+    ghost use Rattle.std.specs.Prelude.{◌^◌, ◌≤◌};
+    ghost use Rattle.qz_ring.specs.Terms.{Terms, IsCanonical, weight_of, largest_reach, reach_times};
+
+    ghost Value = { Terms };
+
+    ghost view = { λ a. a.terms.items };
+
+    ghost invariant = { λ a. IsCanonical a.terms.items × (weight_of a.terms.items ≤ 2 ^ 120) × (largest_reach a.terms.items ≤ 2 ^ 40) };
+}
+
+impl Elem {
+    /// The empty sum. Takes no memory.
+    pub fn zero(alloc: Global) -> Elem
+        ensures { result ≡ [] }
+    {
+        Elem {
+            terms: Vec::new(alloc),
+        }
+    }
+
+    /// The sum of one term: no turn, no powers, coefficient 1.
+    pub fn one(alloc: Global) -> Result<Elem, Memory>
+        ensures { IfOk result (λ one. one ≡ record { exponent = zero_exponent; coefficient = pos 1 } ∷ []) }
+    {
+        let Ok(mut terms) = Vec::with_capacity(alloc, 1) else {
+            return Err(Memory);
+        };
+        terms.push_reserved(Term {
+            exponent: Exponent {
+                turn: 0,
+                powers: [0; 3],
+            },
+            coefficient: 1,
+        });
+        Ok(Elem { terms })
+    }
+
+    /// A copy of the sum.
+    pub fn copy(&self) -> Result<Elem, Memory>
+        ensures { IfOk result (λ copy. copy ≡ self.now) }
+    {
+        match Vec::from_slice(*self.terms.allocator(), &self.terms) {
+            Ok(terms) => Ok(Elem { terms }),
+            Err(_) => Err(Memory),
+        }
+    }
+
+    /// Adds another sum.
+    pub fn add(&mut self, other: &Elem) -> Result<(), Memory>
+        requires { weight_of self.old + weight_of other.now ≤ 2 ^ 120 }
+        ensures counts { OnOk result ((e : Monomial) → IsExponent e → count self.new e ≡ count self.old e +ℤ count other.now e) }
+        ensures weight { OnOk result (weight_of self.new ≤ weight_of self.old + weight_of other.now) }
+        ensures reach { OnOk result (largest_reach self.new ≤ max (largest_reach self.old) (largest_reach other.now)) }
+        ensures err { OnErr result (self.new ≡ self.old) }
+    {
+        self.combine(other, false)
+    }
+
+    /// Subtracts another sum.
+    pub fn sub(&mut self, other: &Elem) -> Result<(), Memory>
+        requires { weight_of self.old + weight_of other.now ≤ 2 ^ 120 }
+        ensures counts { OnOk result ((e : Monomial) → IsExponent e → count self.new e ≡ count self.old e -ℤ count other.now e) }
+        ensures weight { OnOk result (weight_of self.new ≤ weight_of self.old + weight_of other.now) }
+        ensures reach { OnOk result (largest_reach self.new ≤ max (largest_reach self.old) (largest_reach other.now)) }
+        ensures err { OnErr result (self.new ≡ self.old) }
+    {
+        self.combine(other, true)
+    }
+
+    // Adds another sum, or subtracts it if it is negated.
+    fn combine(&mut self, other: &Elem, negated: bool) -> Result<(), Memory>
+        requires { weight_of self.old + weight_of other.now ≤ 2 ^ 120 }
+        ensures ok { OnOk result (IsMerged negated self.old other.now self.new) }
+        ensures err { OnErr result (self.new ≡ self.old) }
+    {
+        let merged = merge(*self.terms.allocator(), &self.terms, &other.terms, negated)?;
+        self.terms = merged;
+        Ok(())
+    }
+
+    /// Multiplies by a monomial, where the powers of each product lie from -2^40 to 2^40. Takes no
+    /// memory.
+    pub fn shift(&mut self, by: Exponent)
+        requires { reach_times self.old by ≤ 2 ^ 40 }
+        ensures counts { (e : Monomial) → IsExponent e → count self.new e ≡ count self.old (minus e by) }
+        ensures weight { weight_of self.new ≡ weight_of self.old }
+        ensures length { length self.new ≡ length self.old }
+        ensures reach { largest_reach self.new ≡ reach_times self.old by }
+    {
+        shift_terms(self.terms.as_mut_slice(), by);
+    }
+
+    /// Multiplies by the square root of 2.
+    pub fn times_root2(&mut self) -> Result<(), Memory>
+        requires { weight_of self.old ≤ 2 ^ 119 }
+        ensures counts { OnOk result (IsTimesRoot2 self.old self.new) }
+        ensures weight { OnOk result (weight_of self.new ≤ 2 * weight_of self.old) }
+        ensures reach { OnOk result (largest_reach self.new ≤ largest_reach self.old) }
+        ensures err { OnErr result (self.new ≡ self.old) }
+    {
+        let mut product = self.turned_copy(64)?;
+        let less = self.turned_copy(192)?;
+        product.sub(&less)?;
+        *self = product;
+        Ok(())
+    }
+
+    // A copy of the sum, times the monomial that only turns.
+    #[tactic(auto, using(crate::proofs::Sums::reach_times_le))]
+    fn turned_copy(&self, turn: u16) -> Result<Elem, Memory>
+        requires { turn < 512 }
+        ensures counts { IfOk result (λ turned. (e : Monomial) → IsExponent e → count turned e ≡ count self.now (minus e (turn_alone turn))) }
+        ensures weight { IfOk result (λ turned. weight_of turned ≡ weight_of self.now) }
+        ensures reach { IfOk result (λ turned. largest_reach turned ≤ largest_reach self.now) }
+    {
+        let _ = &self.terms;
+        let mut copy = self.copy()?;
+        copy.shift(Exponent {
+            turn,
+            powers: [0; 3],
+        });
+        Ok(copy)
+    }
+
+    /// Whether the sum is zero.
+    pub fn is_zero(&self) -> bool
+        ensures empty { IsTrue result ↔ (self.now ≡ []) }
+        ensures counts { IsTrue result ↔ ((e : Monomial) → IsExponent e → count self.now e ≡ pos 0) }
+    {
+        self.terms.is_empty()
+    }
+
+    /// Whether the two sums are the same.
+    pub fn same(&self, other: &Elem) -> bool
+        ensures equal { IsTrue result ↔ (self.now ≡ other.now) }
+        ensures counts { IsTrue result ↔ ((e : Monomial) → IsExponent e → count self.now e ≡ count other.now e) }
+    {
+        same_terms(&self.terms, &other.terms)
+    }
+
+    /// The sum of the absolute coefficients.
+    pub fn weight(&self) -> u128
+        ensures value { result ≡ weight_of self.now }
+        ensures bounded { weight_of self.now ≤ 2 ^ 120 }
+        ensures reach { largest_reach self.now ≤ 2 ^ 40 }
+    {
+        weigh(&self.terms)
+    }
+
+    /// The term with the first exponent, if there is a term.
+    pub fn leading(&self) -> Option<(Exponent, i128)>
+        ensures none { IsNone result ↔ (self.now ≡ []) }
+        ensures first { IfSome result (λ lead. slice_get self.now 0 ≡ Some (record { exponent = lead.0; coefficient = lead.1 })) }
+        ensures half_turn { IfSome result (λ lead. lead.0.turn < 256) }
+        ensures counted { IfSome result (λ lead. count self.now lead.0 ≡ lead.1) }
+        ensures nonzero { IfSome result (λ lead. lead.1 ≢ pos 0) }
+    {
+        match self.terms.first() {
+            Some(term) => Some((term.exponent, term.coefficient)),
+            None => None,
+        }
+    }
+
+    /// The number of terms.
+    pub fn terms(&self) -> u64
+        ensures { result ≡ length self.now }
+    {
+        self.terms.len() as u64
+    }
+
+    /// The exponent and the coefficient of the term at a place.
+    pub fn term(&self, k: u64) -> (Exponent, i128)
+        requires { k < length self.now }
+        ensures { slice_get self.now k ≡ Some (record { exponent = result.0; coefficient = result.1 }) }
+    {
+        let term = self.terms[k as usize];
+        (term.exponent, term.coefficient)
+    }
+}
+
+// Whether the two lists of terms are equal.
+fn same_terms(left: &[Term], right: &[Term]) -> bool
+    ensures { IsTrue result ↔ (left.now ≡ right.now) }
+{
+    left == right
+}
+
+// The sum of the absolute coefficients.
+fn weigh(terms: &[Term]) -> u128
+    requires { weight_of terms.now ≤ 2 ^ 120 }
+    ensures { result ≡ weight_of terms.now }
+{
+    let mut weight = 0;
+    for term in terms {
+        weight += term.coefficient.unsigned_abs();
+    }
+    weight
+}
+
+#[cfg(test)]
+mod tests;
