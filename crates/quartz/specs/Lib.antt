@@ -1,3 +1,4 @@
 pub mod Sink
 pub mod MemSink
 pub mod Words
+pub mod RuleText

@@ -1,8 +1,9 @@
 -- What the words of a command ask for.
-use Rattle.std.specs.Prelude.{◌≡◌, ℕ, ◌+◌, ◌-◌, ◌*◌, ◌&&◌, nat_eq, nat_lt, nat_le, List, [], ◌∷◌, length, fold, codes, if◌then◌else◌, Option, Some, None, option_and_then}
+use Rattle.std.specs.Prelude.{◌≡◌, ℕ, ◌+◌, ◌-◌, ◌*◌, Bool, ◌&&◌, nat_lt, List, [], ◌∷◌, length, fold, codes, if◌then◌else◌, Option, Some, None, option_and_then}
 use Rattle.std.specs.Option.{option_map}
 use Rattle.std.specs.Char.{is_ascii_digit}
-use Rattle.std.specs.List.{list_all, slice_eq}
+use Rattle.std.specs.List.{list_all}
+use Rattle.std.specs.Str.{bytes_eq}
 use Rattle.qz_circ.specs.declared.fault.LimitFault.{LimitFault}
 use Rattle.qz_circ.specs.declared.fault.LimitFault.TheVariants.{Qubits, Gates, Params, Circuits}
 use Rattle.qz_circ.specs.declared.fault.Which.{Which}
@@ -30,7 +31,7 @@ limits_of n q m = None
 -- the limits of the generation that the words ask for; none where the words are in no written form
 unfoldable pub asked : List (List ℕ) → Option Limits
 asked (command ∷ n ∷ q ∷ m ∷ []) =
-    if slice_eq nat_eq command (codes "generate") then limits_of (number_of n) (number_of q) (number_of m) else None
+    if bytes_eq command (codes "generate") then limits_of (number_of n) (number_of q) (number_of m) else None
 asked words = None
 
 -- which limit a number passes that is refused for this

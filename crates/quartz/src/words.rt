@@ -1,7 +1,8 @@
 //! The words of a command: what they ask for, and why they are refused.
-ghost use Rattle.std.specs.Prelude.{◌≡◌, ◌<◌, ◌^◌, ◌↔◌, map, length, string_bytes, IfSome};
+ghost use Rattle.std.specs.Prelude.{◌≡◌, ◌<◌, ◌^◌, ◌↔◌, map, length, string_bytes};
+ghost use Rattle.std.specs.Option.{option_map};
 ghost use Rattle.qz_circ.specs.Circuit.{Limits};
-ghost use Rattle.quartz.specs.Words.{number_of, which_of, IsUsage, IsRefused, Asks};
+ghost use Rattle.quartz.specs.Words.{number_of, which_of, asked, IsUsage, IsRefused, Asks};
 
 use qz_circ::{Bounds, LimitFault, Which};
 
@@ -15,11 +16,15 @@ pub enum WordFault {
 }
 
 // The value of one to eighteen digits.
+#[tactic(auto, using(std::proofs::lemmas::Bool::Decides::nat_tests), unfolding(crate::specs::Words::number_of))]
 fn number(word: &str) -> Option<u64>
     ensures { result ≡ number_of word.now }
 {
     let digits = word.as_bytes();
-    if digits.is_empty() || digits.len() > 18 {
+    if digits.is_empty() {
+        return None;
+    }
+    if digits.len() > 18 {
         return None;
     }
     let mut value: u64 = 0;
@@ -44,19 +49,27 @@ fn limit_of(fault: LimitFault) -> Which
     }
 }
 
+// The three numbers of the one written form.
+#[tactic(auto, unfolding(crate::specs::Words::asked))]
+fn asked_numbers(words: &[String]) -> Option<(u64, u64, u64)>
+    ensures { asked (map string_bytes words.now) ≡ option_map (λ t. record { n = t.0; q = t.1; m = t.2 }) result }
+{
+    let [command, n, q, m] = words else {
+        return None;
+    };
+    if command.as_str() != "generate" {
+        return None;
+    }
+    Some((number(n)?, number(q)?, number(m)?))
+}
+
 /// The bounds of the generation that the words ask for.
 pub fn read_words(words: &[String]) -> Result<Bounds, WordFault>
     ensures ok { (b : Limits) → (result ≡ Ok b) ↔ Asks (map string_bytes words.now) b }
     ensures usage { (result ≡ Err WordFault.Usage) ↔ IsUsage (map string_bytes words.now) }
     ensures limit { (w : Which) → (result ≡ Err (WordFault.Limit w)) ↔ IsRefused (map string_bytes words.now) w }
 {
-    let [command, n, q, m] = words else {
-        return Err(WordFault::Usage);
-    };
-    if command.as_str() != "generate" {
-        return Err(WordFault::Usage);
-    }
-    let (Some(n), Some(q), Some(m)) = (number(n), number(q), number(m)) else {
+    let Some((n, q, m)) = asked_numbers(words) else {
         return Err(WordFault::Usage);
     };
     match Bounds::new(n, q, m) {
