@@ -2,3 +2,5 @@ pub mod Sink
 pub mod MemSink
 pub mod Words
 pub mod RuleText
+pub mod Command
+pub mod Status

@@ -29,6 +29,13 @@ impl<W: Write + Drop> StdSink<W> {
     {
         StdSink { stream, faults: 0 }
     }
+
+    /// How often it has failed.
+    pub fn faults(&self) -> u64
+        ensures { result ≡ self.now }
+    {
+        self.faults
+    }
 }
 
 impl<W: Write + Drop> Sink for StdSink<W> {
