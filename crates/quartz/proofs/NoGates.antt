@@ -1,6 +1,6 @@
 -- Where no gate is allowed, the empty circuit is the only one, and no class has two members.
-use Rattle.std.proofs.Common.{◌≡◌, ℕ, zero, suc, ◌+◌, ◌-◌, ◌%◌, ◌<◌, ◌≤◌, ◌↔◌, Bool, false, List, [], ◌∷◌, length, IsTrue, Contains, refl, sym, ap, ◌∙◌, arith, count_by, get_or, slice_index}
-use Rattle.std.specs.Prelude.{ℤ, pos, ◌-ℤ◌}
+use Rattle.std.proofs.Common.{◌≡◌, ℕ, zero, suc, ◌+◌, ◌-◌, ◌%◌, ◌<◌, Bool, false, List, [], ◌∷◌, length, refl, sym, ap, ◌∙◌, arith, count_by, get_or, slice_index}
+use Rattle.std.specs.Prelude.{pos, ◌-ℤ◌}
 use Rattle.std.proofs.Common.{inl}
 use Rattle.std.proofs.lemmas.Int.{ints}
 use Rattle.std.specs.Ordering.{nat_cmp, ordering_then, is_lt}
@@ -11,7 +11,7 @@ use Rattle.qz_circ.specs.Exponent.{Exponent, IsExponent, minus, zero_exponent}
 use Rattle.qz_circ.specs.Paths.{count}
 use Rattle.qz_circ.specs.Equivalence.{Equivalent, scaled}
 use Rattle.qz_circ.specs.Order.{is_before, rank, circuit_cmp, all_circuits}
-use Rattle.qz_circ.specs.Classes.{IsRepresentative, IsKept, IsRepresentativeRank, IsMemberRank, ListsExactly, IsClassList}
+use Rattle.qz_circ.specs.Classes.{IsRepresentative, IsRepresentativeRank, IsMemberRank, ListsExactly, IsClassList}
 
 only_empty : (b : Limits) (c : Circuit) → b.n ≡ 0 → Within b c → c ≡ []
 only_empty b [] none within = refl

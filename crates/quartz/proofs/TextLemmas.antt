@@ -1,7 +1,7 @@
 -- The text of a rule file, piece by piece.
-use Rattle.std.proofs.Common.{◌≡◌, ℕ, ◌+◌, ◌<◌, ◌≤◌, suc, ◌-◌, List, [], ◌∷◌, ◌++◌, length, take, drop, get_or, map, codes, slice_get, Some, refl, sym, ap, ◌∙◌, append_assoc, arith, add-one}
+use Rattle.std.proofs.Common.{◌≡◌, ℕ, ◌+◌, ◌<◌, ◌≤◌, suc, ◌-◌, List, [], ◌∷◌, ◌++◌, length, take, drop, get_or, codes, slice_get, Some, sym, ap, ◌∙◌, append_assoc, arith, add-one}
 use Rattle.std.specs.Fmt.{decimal}
-use Rattle.std.specs.List.{flat_map, join_with_byte}
+use Rattle.std.specs.List.{flat_map}
 use Rattle.std.proofs.lemmas.List.{append-nil, take_all, flat_map_more}
 use Rattle.std.proofs.lemmas.Option.{slice_get_within, get_or_from_slice_get}
 use Rattle.std.proofs.Math.Seq.{take-suc}

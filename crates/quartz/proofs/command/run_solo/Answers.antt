@@ -1,4 +1,4 @@
-use Rattle.std.proofs.Common.{map, string_bytes, ap, ◌∙◌, Err}
+use Rattle.std.proofs.Common.{map, string_bytes, ap, Err}
 use Rattle.quartz.proofs.CommandLemmas.{limit_answered}
 use Rattle.quartz.proofs.command.run_solo.Goals as goal
 

@@ -1,8 +1,6 @@
-use Rattle.std.proofs.Common.{◌≡◌, ap, arith, sym}
+use Rattle.std.proofs.Common.{◌≡◌, ap, arith}
 use Rattle.std.specs.Prelude.{[]}
 use Rattle.std.proofs.lemmas.Bool.Decides.{nat_tests}
-use Rattle.qz_circ.specs.Circuit.{Limits}
-use Rattle.qz_circ.specs.Classes.{IsClassList}
 use Rattle.qz_circ.specs.ClassLists.{ClassLists}
 use Rattle.quartz.proofs.NoGates.{no_classes}
 use Rattle.quartz.proofs.generation.classes_of.Goals as goal

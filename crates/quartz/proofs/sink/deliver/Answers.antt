@@ -1,4 +1,4 @@
-use Rattle.std.proofs.Common.{◌≡◌, ◌+◌, ◌-◌, ◌≤◌, arith, take, drop, length}
+use Rattle.std.proofs.Common.{◌≡◌, ◌-◌, arith, take, drop, length}
 use Rattle.std.proofs.lemmas.Grind.{common_steps}
 use Rattle.quartz.proofs.SinkLemmas.{grown-parts}
 use Rattle.quartz.proofs.sink.deliver.Goals as goal

@@ -1,5 +1,3 @@
-use Rattle.std.proofs.Common.{ap, length, subst, sym}
-use Rattle.quartz.specs.MemSink.{AreStopsFrom}
 use Rattle.quartz.proofs.SinkLemmas.{stops_from_start}
 use Rattle.quartz.proofs.memory_sink.MemSink.new.Goals as goal
 
