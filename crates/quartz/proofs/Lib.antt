@@ -1,0 +1,5 @@
+pub mod SinkLemmas
+pub mod WordLemmas
+pub mod TextLemmas
+pub mod NoGates
+pub mod CommandLemmas

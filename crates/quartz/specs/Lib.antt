@@ -1,0 +1,6 @@
+pub mod Sink
+pub mod MemSink
+pub mod Words
+pub mod RuleText
+pub mod Command
+pub mod Status

@@ -1,0 +1,22 @@
+-- The numbers of statuses.
+use Rattle.std.specs.Prelude.{ℕ}
+use Rattle.quartz.specs.declared.status.Status.{Status}
+use Rattle.quartz.specs.declared.status.Status.TheVariants.{Ok, Memory, Usage, Limit, WriteFault, Unbuilt}
+
+-- the number that the program ends with
+abbrev pub status_number : Status → ℕ
+status_number Ok = 0
+status_number Memory = 1
+status_number Usage = 2
+status_number (Limit which) = 3
+status_number WriteFault = 9
+status_number Unbuilt = 11
+
+-- a status at which nothing is written: the words are refused, or ask for what isn't built
+abbrev pub IsRefusal : Status → Type 0
+IsRefusal Ok = ⊥
+IsRefusal Memory = ⊥
+IsRefusal Usage = Unit {0}
+IsRefusal (Limit which) = Unit {0}
+IsRefusal WriteFault = ⊥
+IsRefusal Unbuilt = Unit {0}
