@@ -6,7 +6,7 @@ use Rattle.qz_circ.specs.Circuit.{Circuit, Limits, Within}
 use Rattle.qz_circ.specs.Equivalence.{Equivalent}
 use Rattle.qz_circ.specs.Order.{is_before, all_circuits, rank, circuit_at}
 use Rattle.qz_circ.specs.Classes.{IsRepresentative, IsKept, IsRepresentativeRank, IsMemberRank, ListsExactly, IsClassList}
-use Rattle.qz_repgen.specs.declared.Class.{Class}
+use Rattle.qz_repgen.specs.declared.progress.Class.{Class}
 use Rattle.qz_repgen.specs.Progress.{ListsBelow, Covers, representatives_of}
 use Rattle.qz_repgen.proofs.Listing.{none_below, listed_with, listed_without, lists_exactly}
 

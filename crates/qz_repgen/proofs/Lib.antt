@@ -1,3 +1,4 @@
 pub mod Listing
 pub mod Generation
 pub mod Turn
+pub mod Kept

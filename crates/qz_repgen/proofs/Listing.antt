@@ -1,10 +1,13 @@
 -- Rising lists of the numbers below a bound of which a fact holds, as they grow with the bound.
-use Rattle.std.proofs.Common.{◌≡◌, ℕ, zero, suc, ◌+◌, ◌<◌, ◌≤◌, List, [], ◌∷◌, ◌++◌, length, get_or, ◌⊎◌, inl, inr, refl, sym, ap, subst, arith}
-use Rattle.std.specs.Prelude.{◌↔◌, Contains}
-use Rattle.std.specs.List.{AllPairs, AllZip}
+use Rattle.std.proofs.Common.{◌≡◌, ℕ, zero, suc, ◌+◌, ◌<◌, ◌≤◌, Bool, true, false, ◌||◌, List, [], ◌∷◌, ◌++◌, map, length, get_or, ◌⊎◌, inl, inr, refl, sym, ap, subst, ◌∙◌, arith}
+use Rattle.std.specs.Prelude.{◌↔◌, ◌==◌, Contains}
+use Rattle.std.specs.List.{AllPairs, AllZip, list_any}
 use Rattle.std.specs.List.Sorted.{IsStrictlyIncreasing}
 use Rattle.std.proofs.lemmas.List.Elements.{Contains-append_left, Contains-push, Contains-push_cases, Contains-get_or}
+use mathlib.Core.Bool.{false≢true}
+use Rattle.std.specs.Bool.{Decides}
 use Rattle.std.proofs.lemmas.Bool.{cases_lt}
+use Rattle.std.proofs.lemmas.Bool.Decides.{Decides-eqb}
 use Rattle.std.proofs.lemmas.List.Quantifiers.{all_pairs_push}
 use Rattle.std.proofs.lemmas.List.Kept.{AllPairs-from_increasing}
 use Rattle.qz_circ.specs.Classes.{ListsExactly}
@@ -60,3 +63,17 @@ all_zip_from_each R [] [] same each = tt
 all_zip_from_each R [] (y ∷ ys) same each = absurd (omega arith)
 all_zip_from_each R (x ∷ xs) [] same each = absurd (omega arith)
 all_zip_from_each R (x ∷ xs) (y ∷ ys) same each = (each zero x y (omega arith), all_zip_from_each R xs ys (omega arith) (λ i d e in_range. each (suc i) d e (omega arith)))
+
+-- a first item of a test that finds r
+found : {A : Type 0} (number : A → ℕ) (x : A) (xs : List A) (r : ℕ) (test : Bool) → (number x == r) ≡ test → Decides (list_any (λ y. number y == r) xs) (Contains (map number xs) r) → Decides (test || list_any (λ y. number y == r) xs) (Contains (number x ∷ map number xs) r)
+found number x xs r true same rest = (λ is. (zero, omega arith, (Decides-eqb (number x) r).0 same), λ has. refl)
+found {A} number x xs r false same rest = (λ is. (let has = rest.0 is in (suc has.0, omega (arith, has.1), has.2)), from)
+  where
+    from : Contains (number x ∷ map number xs) r → list_any (λ y. number y == r) xs ≡ true
+    from (zero, in_range, is) = absurd (false≢true (sym same ∙ (Decides-eqb (number x) r).1 is))
+    from (suc k, in_range, is) = rest.1 (k, omega arith, is)
+
+-- an item has the number r exactly where r is among the numbers of the items
+pub list_any_contains : {A : Type 0} (number : A → ℕ) (xs : List A) (r : ℕ) → Decides (list_any (λ x. number x == r) xs) (Contains (map number xs) r)
+list_any_contains number [] r = (λ is. absurd (false≢true is), λ has. absurd (omega (arith, has.1)))
+list_any_contains number (x ∷ xs) r = found number x xs r (number x == r) refl (list_any_contains number xs r)

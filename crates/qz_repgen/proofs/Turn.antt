@@ -7,7 +7,7 @@ use Rattle.qz_circ.specs.Circuit.{Circuit, Limits}
 use Rattle.qz_circ.specs.Equivalence.{Equivalent}
 use Rattle.qz_circ.specs.Order.{all_circuits, circuit_at}
 use Rattle.qz_circ.specs.Classes.{IsKept, IsRepresentativeRank, IsMemberRank}
-use Rattle.qz_repgen.specs.declared.Class.{Class}
+use Rattle.qz_repgen.specs.declared.progress.Class.{Class}
 use Rattle.qz_repgen.specs.Progress.{ListsBelow, Covers, representatives_of, Joins, JoinsWhere, AreFlags}
 use Rattle.qz_repgen.proofs.Listing.{none_below, listed_with, listed_without}
 use Rattle.qz_repgen.proofs.Generation.{RanksAreOrder, member_kept, member_equivalent, member_from, member_not_lower, is_representative, is_no_representative}

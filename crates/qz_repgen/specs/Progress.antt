@@ -1,11 +1,13 @@
 -- How far a generation has come: what it keeps of the circuits with the ranks below a bound.
-use Rattle.std.specs.Prelude.{◌≡◌, ℕ, ◌<◌, Bool, true, false, List, [], ◌∷◌, ◌++◌, map, filter, length, nat_lt, Contains, if◌then◌else◌, slice_index_or}
+use Rattle.std.specs.Prelude.{◌≡◌, ℕ, ◌<◌, Bool, true, false, List, [], ◌∷◌, ◌++◌, map, filter, length, nat_lt, Contains, if◌then◌else◌, slice_index_or, Vec}
 use Rattle.std.specs.List.{AllPairs, AllByRecursion}
-use Rattle.qz_circ.specs.Circuit.{Limits}
+use Rattle.std.specs.declared.alloc.Global.{Global}
+use Rattle.qz_circ.specs.declared.circuit.Op.{Op}
+use Rattle.qz_circ.specs.Circuit.{Circuit, Limits}
 use Rattle.qz_circ.specs.Equivalence.{Equivalent}
 use Rattle.qz_circ.specs.Order.{circuit_at}
 use Rattle.qz_circ.specs.Classes.{IsRepresentativeRank, IsMemberRank}
-use Rattle.qz_repgen.specs.declared.Class.{Class}
+use Rattle.qz_repgen.specs.declared.progress.Class.{Class}
 
 -- the list has exactly the numbers below the bound of which the fact holds, rising
 pub record ListsBelow (bound : ℕ) (P : ℕ → Type 0) (numbers : List ℕ) : Type 0 where
@@ -40,3 +42,14 @@ pub record AreFlags (b : Limits) (r : ℕ) (flags : List Bool) : Type 0 where
   pub one_each : length flags ≡ r
   pub set : (s : ℕ) → s < r → slice_index_or flags s false ≡ true → Equivalent b.q (circuit_at b r) (circuit_at b s)
   pub unset : (s : ℕ) → s < r → slice_index_or flags s false ≡ false → Equivalent b.q (circuit_at b r) (circuit_at b s) → ⊥
+
+-- new is old with a class of r at its end, which has r as a member where the flag is set
+pub record Opens (flag : Bool) (r : ℕ) (old new : List Class) : Type 0 where
+  pub class : Class
+  pub representative : class.representative ≡ r
+  pub members : class.members.items ≡ (if flag then r ∷ [] else [])
+  pub last : new ≡ old ++ class ∷ []
+
+-- the gates of each circuit
+abbrev pub circuits_in : List (Vec Op Global) → List Circuit
+circuits_in circuits = map (λ c. c.items) circuits

@@ -1,7 +1,7 @@
 use Rattle.std.proofs.Common.{◌≡◌, ℕ, ◌<◌, ◌≤◌, length, get_or}
-use Rattle.qz_repgen.specs.declared.Class.{Class}
+use Rattle.qz_repgen.specs.declared.progress.Class.{Class}
 use Rattle.qz_repgen.specs.Progress.{JoinsWhere}
-use Rattle.qz_repgen.proofs.join_classes.Given as goal
+use Rattle.qz_repgen.proofs.progress.join_classes.Given as goal
 
 -- the classes so far have joined, and the others are as they were
 abbrev pub invariant-loop-k : goal.invariant-loop-k

@@ -1,6 +1,6 @@
 use Rattle.std.proofs.Common.{◌≡◌, take}
 use Rattle.qz_repgen.specs.Progress.{several_of}
-use Rattle.qz_repgen.proofs.several.Given as goal
+use Rattle.qz_repgen.proofs.progress.several.Given as goal
 
 abbrev pub invariant-loop-class : goal.invariant-loop-class
 invariant-loop-class l = record {
