@@ -1,8 +1,10 @@
 -- What ranks say of representatives, kept circuits and members, and one turn of a generation.
-use Rattle.std.proofs.Common.{◌≡◌, ℕ, zero, suc, ◌+◌, ◌-◌, ◌<◌, ◌≤◌, Bool, true, false, List, [], ◌∷◌, ◌++◌, map, length, ◌⊎◌, inl, inr, refl, sym, ap, subst, ◌∙◌, arith, cond}
-use Rattle.std.specs.Prelude.{◌↔◌, Contains, IsTrue, filter, nat_lt}
+use Rattle.std.proofs.Common.{◌≡◌, ℕ, zero, suc, ◌+◌, ◌-◌, ◌<◌, ◌≤◌, Bool, true, false, List, [], ◌∷◌, ◌++◌, map, length, get_or, ◌⊎◌, inl, inr, refl, sym, ap, subst, ◌∙◌, arith, cond}
+use Rattle.std.specs.Prelude.{◌↔◌, Contains, All, IsTrue, filter, nat_lt}
 use Rattle.std.specs.List.{AllZip, AllByRecursion}
+use Rattle.std.proofs.lemmas.List.Elements.{All-from_recursion, Contains-get_or}
 use Rattle.qz_circ.specs.Circuit.{Circuit, Limits, Within}
+use Rattle.qz_circ.specs.ClassLists.{AreRanks}
 use Rattle.qz_circ.specs.Equivalence.{Equivalent}
 use Rattle.qz_circ.specs.Order.{is_before, all_circuits, rank, circuit_at}
 use Rattle.qz_circ.specs.Classes.{IsRepresentative, IsKept, IsRepresentativeRank, IsMemberRank, ListsExactly, IsClassList}
@@ -90,3 +92,11 @@ module _ (b : Limits) (ranks : RanksAreOrder b) where
     each_list = zipped bound most classes covers.members;
     several = refl;
   }
+
+  -- the members are ranks
+  pub members_are_ranks : (bound : ℕ) → bound ≤ length (all_circuits b) → (classes : List Class) → Covers b bound classes → All (λ c. AreRanks b c.members.items) classes
+  members_are_ranks bound most classes covers k d in_range i e in_list =
+      let lists = All-from_recursion (λ c. ListsBelow bound (IsMemberRank b c.representative) c.members.items) classes covers.members k d in_range in
+      let items = (get_or classes k d).members.items in
+      let below = (lists.each (get_or items i e) (Contains-get_or items i e in_list)).0 in
+      omega arith

@@ -2,3 +2,6 @@ pub mod Listing
 pub mod Generation
 pub mod Turn
 pub mod Kept
+pub mod Assumed
+pub mod Flags
+pub mod TurnTaken

@@ -27,7 +27,7 @@ module _ (b : Limits) (ranks : RanksAreOrder b)
     (symmetric : (a c : Circuit) → Equivalent b.q a c → Equivalent b.q c a)
     (r : ℕ) (below : r < length (all_circuits b)) where
   -- a kept circuit joins the classes of the representatives that it is equivalent to
-  pub joined : (flags : List Bool) → AreFlags b r flags → IsKept b (circuit_at b r) → (old new : List Class) →
+  pub joined : (flags : List Bool) → AreFlags b (circuit_at b r) r flags → IsKept b (circuit_at b r) → (old new : List Class) →
       ((s : ℕ) → Contains (representatives_of old) s → (s < r) × IsRepresentativeRank b s) →
       AllByRecursion (λ c. ListsBelow r (IsMemberRank b c.representative) c.members.items) old → AllZip (JoinsWhere flags r) old new →
       AllByRecursion (λ c. ListsBelow (r + 1) (IsMemberRank b c.representative) c.members.items) new

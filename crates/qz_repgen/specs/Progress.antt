@@ -37,11 +37,11 @@ JoinsWhere flags r old new = Joins (slice_index_or flags old.representative fals
 abbrev pub several_of : List Class → List (List ℕ)
 several_of classes = filter (λ list. nat_lt 1 (length list)) (map (λ c. c.members.items) classes)
 
--- a flag for each lower rank, set where the circuit with rank r is equivalent to that rank's circuit
-pub record AreFlags (b : Limits) (r : ℕ) (flags : List Bool) : Type 0 where
-  pub one_each : length flags ≡ r
-  pub set : (s : ℕ) → s < r → slice_index_or flags s false ≡ true → Equivalent b.q (circuit_at b r) (circuit_at b s)
-  pub unset : (s : ℕ) → s < r → slice_index_or flags s false ≡ false → Equivalent b.q (circuit_at b r) (circuit_at b s) → ⊥
+-- a flag for each rank below k, set where the circuit is equivalent to that rank's circuit
+pub record AreFlags (b : Limits) (c : Circuit) (k : ℕ) (flags : List Bool) : Type 0 where
+  pub one_each : length flags ≡ k
+  pub set : (s : ℕ) → s < k → slice_index_or flags s false ≡ true → Equivalent b.q c (circuit_at b s)
+  pub unset : (s : ℕ) → s < k → slice_index_or flags s false ≡ false → Equivalent b.q c (circuit_at b s) → ⊥
 
 -- new is old with a class of r at its end, which has r as a member where the flag is set
 pub record Opens (flag : Bool) (r : ℕ) (old new : List Class) : Type 0 where

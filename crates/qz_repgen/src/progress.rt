@@ -1,5 +1,5 @@
 //! What a generation keeps of the circuits so far: a class for each representative.
-ghost use Rattle.std.specs.Prelude.{◌≡◌, ◌<◌, length, All, ◌==◌, OnOk, IfOk, [], ◌∷◌, if◌then◌else◌};
+ghost use Rattle.std.specs.Prelude.{◌≡◌, ◌<◌, length, All, ◌==◌, OnOk, IfOk, IsTrue, IsFalse, [], ◌∷◌, if◌then◌else◌};
 ghost use Rattle.std.specs.List.{AllZip, list_any};
 ghost use Rattle.qz_circ.specs.ClassLists.{AreRanks};
 ghost use Rattle.qz_repgen.specs.Progress.{Opens, Joins, JoinsWhere, several_of};
@@ -63,13 +63,30 @@ fn join(class: &mut Class, flag: bool, r: u64) -> Result<(), Memory>
 }
 
 // Adds a rank to the members of each class whose representative's flag is set.
-pub(crate) fn join_classes(classes: &mut Vec<Class>, flags: &[bool], r: u64) -> Result<(), Memory>
+fn join_classes(classes: &mut Vec<Class>, flags: &[bool], r: u64) -> Result<(), Memory>
     requires { All (λ c. c.representative < length flags.now) classes.old.items }
     ensures { OnOk result (AllZip (JoinsWhere flags.now r) classes.old.items classes.new.items) }
 {
     for k in 0..classes.len() {
         let flag = flags[classes[k].representative as usize];
         join(&mut classes[k], flag, r)?;
+    }
+    Ok(())
+}
+
+// The same where the circuit is kept, and else nothing.
+pub(crate) fn join_where_kept(
+    classes: &mut Vec<Class>,
+    flags: &[bool],
+    r: u64,
+    kept: bool,
+) -> Result<(), Memory>
+    requires { All (λ c. c.representative < length flags.now) classes.old.items }
+    ensures joined { IsTrue kept → OnOk result (AllZip (JoinsWhere flags.now r) classes.old.items classes.new.items) }
+    ensures same { IsFalse kept → OnOk result (classes.new.items ≡ classes.old.items) }
+{
+    if kept {
+        return join_classes(classes, flags, r);
     }
     Ok(())
 }
