@@ -6,10 +6,16 @@ pub mod bound;
 pub mod circuit;
 pub mod class_list;
 pub mod fault;
+pub mod laws;
+pub mod ranks;
 pub mod step_count;
+#[cfg(test)]
+mod tests;
+pub mod worked_values;
 
 pub use bound::Bounds;
 pub use circuit::{Expr, Op};
 pub use class_list::Classes;
 pub use fault::{LimitFault, Memory, Which};
+pub use ranks::{length_of, op_number, op_of, rank, unrank};
 pub use step_count::Steps;

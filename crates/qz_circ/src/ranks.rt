@@ -1,0 +1,205 @@
+//! The numbers of gates and circuits within bounds: their places in the order of all of them.
+ghost use Rattle.std.specs.Prelude.{◌≡◌, ℕ, ◌+◌, ◌*◌, ◌<◌, ◌≤◌, ◌↔◌, length, slice_get, IsSome, IfSome, IfOk, Some, Contains};
+ghost use Rattle.qz_circ.specs.Circuit.{Within, gates_of, angles};
+ghost use Rattle.qz_circ.specs.Order.{all_circuits, rank, circuit_at};
+
+use crate::bound::Bounds;
+use crate::circuit::{Expr, Op};
+use crate::fault::Memory;
+use std::alloc::Global;
+
+// How many angles there are with m parameters.
+fn count_angles(m: u64) -> u64
+    requires { m ≤ 3 }
+    ensures count { result ≡ length (angles m) }
+    ensures some { 7 ≤ result }
+    ensures few { result ≤ 16 }
+{
+    7 + 2 * m + m * m.saturating_sub(1) / 2
+}
+
+// The angle with this number among those with m parameters.
+fn angle_of(number: u64, m: u64) -> Option<Expr>
+    requires { m ≤ 3 }
+    ensures { result ≡ slice_get (angles m) number }
+{
+    if number >= count_angles(m) {
+        return None;
+    }
+    if number < 7 {
+        return Some(Expr::Const(number as u8 + 1));
+    }
+    let parameter = number as u8 - 7;
+    let params = m as u8;
+    if parameter < params {
+        return Some(Expr::Plus(parameter));
+    }
+    if parameter < 2 * params {
+        return Some(Expr::Minus(parameter - params));
+    }
+    match parameter - 2 * params {
+        0 => Some(Expr::Sum(0, 1)),
+        1 => Some(Expr::Sum(0, 2)),
+        _ => Some(Expr::Sum(1, 2)),
+    }
+}
+
+// The number of an angle among those with m parameters, if it is one of them.
+fn angle_place(angle: Expr, m: u64) -> u64
+    requires { m ≤ 3 }
+    ensures place { (k : ℕ) → slice_get (angles m) k ≡ Some angle → result ≡ k }
+    ensures few { result ≤ 1000 }
+{
+    match angle {
+        Expr::Const(t) => u64::from(t.saturating_sub(1)),
+        Expr::Plus(i) => 7 + u64::from(i),
+        Expr::Minus(i) => 7 + m + u64::from(i),
+        Expr::Sum(i, j) => 6 + 2 * m + u64::from(i) + u64::from(j),
+    }
+}
+
+// The number of a gate among those on q qubits with m parameters, if it is one of them.
+fn op_place(op: Op, q: u64, m: u64) -> u64
+    requires some_qubit { 0 < q }
+    requires qubits { q ≤ 3 }
+    requires params { m ≤ 3 }
+    ensures { (n k : ℕ) → slice_get (gates_of (record { n = n; q = q; m = m })) k ≡ Some op → result ≡ k }
+{
+    match op {
+        Op::H(t) => u64::from(t),
+        Op::X(t) => q + u64::from(t),
+        Op::Cx(c, t) => {
+            let others = u64::from(if c < t { t - 1 } else { t });
+            2 * q + u64::from(c) * (q - 1) + others
+        }
+        Op::Rz(t, angle) => q + q * q + u64::from(t) * count_angles(m) + angle_place(angle, m),
+    }
+}
+
+// The gate of two qubits with this number among those on q qubits.
+fn pair_of(number: u64, q: u64) -> Op
+    requires several { 2 ≤ q }
+    requires qubits { q ≤ 3 }
+    requires pairs { 2 * q + number < q + q * q }
+    ensures { (n m : ℕ) → m ≤ 3 → slice_get (gates_of (record { n = n; q = q; m = m })) (2 * q + number) ≡ Some result }
+{
+    let control = (number / (q - 1)) as u8;
+    let other = (number % (q - 1)) as u8;
+    if other < control {
+        Op::Cx(control, other)
+    } else {
+        Op::Cx(control, other + 1)
+    }
+}
+
+// The rotation with this number among those on q qubits with m parameters.
+fn rotation_of(number: u64, q: u64, m: u64) -> Option<Op>
+    requires some_qubit { 0 < q }
+    requires qubits { q ≤ 3 }
+    requires params { m ≤ 3 }
+    ensures { (n : ℕ) → result ≡ slice_get (gates_of (record { n = n; q = q; m = m })) (q + q * q + number) }
+{
+    let angles = count_angles(m);
+    if number >= q * angles {
+        return None;
+    }
+    match angle_of(number % angles, m) {
+        Some(angle) => Some(Op::Rz((number / angles) as u8, angle)),
+        None => None,
+    }
+}
+
+// The gate with this number among those on q qubits with m parameters.
+fn gate_of(number: u64, q: u64, m: u64) -> Option<Op>
+    requires some_qubit { 0 < q }
+    requires qubits { q ≤ 3 }
+    requires params { m ≤ 3 }
+    ensures { (n : ℕ) → result ≡ slice_get (gates_of (record { n = n; q = q; m = m })) number }
+{
+    if number < q {
+        return Some(Op::H(number as u8));
+    }
+    if number < 2 * q {
+        return Some(Op::X((number - q) as u8));
+    }
+    if number < q + q * q {
+        return Some(pair_of(number - 2 * q, q));
+    }
+    rotation_of(number - (q + q * q), q, m)
+}
+
+/// The gate with this number among those within the bounds, counted from 0.
+pub fn op_of(number: u64, b: Bounds) -> Option<Op>
+    ensures { result ≡ slice_get (gates_of b) number }
+{
+    gate_of(number, b.q(), b.m())
+}
+
+/// The gate's number among those within the bounds, or nothing where it isn't one of them.
+pub fn op_number(op: Op, b: Bounds) -> Option<u64>
+    ensures within { IsSome result ↔ Contains (gates_of b) op }
+    ensures number { IfSome result (λ k. slice_get (gates_of b) k ≡ Some op) }
+{
+    let number = op_place(op, b.q(), b.m());
+    match op_of(number, b) {
+        Some(found) if found == op => Some(number),
+        _ => None,
+    }
+}
+
+/// How many circuits within the bounds come before the circuit, or nothing where it isn't one of them.
+pub fn rank(c: &[Op], b: Bounds) -> Option<u64>
+    ensures within { IsSome result ↔ Within b c.now }
+    ensures rank { IfSome result (λ r. r ≡ rank b c.now) }
+    ensures listed { IfSome result (λ r. r < length (all_circuits b)) }
+{
+    if c.len() as u64 > b.n() {
+        return None;
+    }
+    let gates = b.gates();
+    let mut earlier = 0;
+    for op in c {
+        let Some(number) = op_number(*op, b) else {
+            return None;
+        };
+        earlier = earlier * gates + number + 1;
+    }
+    Some(earlier)
+}
+
+/// How many gates the circuit with this rank has.
+pub fn length_of(r: u64, b: Bounds) -> u64
+    requires { r < length (all_circuits b) }
+    ensures length { result ≡ length (circuit_at b r) }
+    ensures short { result ≤ b.n }
+{
+    let gates = b.gates();
+    let mut rest = r;
+    let mut len = 0;
+    while rest > 0 {
+        rest = (rest - 1) / gates;
+        len += 1;
+    }
+    len
+}
+
+/// The circuit with this rank.
+pub fn unrank(alloc: Global, r: u64, b: Bounds) -> Result<Vec<Op>, Memory>
+    requires { r < length (all_circuits b) }
+    ensures circuit { IfOk result (λ c. c.items ≡ circuit_at b r) }
+    ensures within { IfOk result (λ c. Within b c.items) }
+    ensures rank { IfOk result (λ c. rank b c.items ≡ r) }
+{
+    let Ok(mut circuit) = Vec::with_capacity(alloc, length_of(r, b) as usize) else {
+        return Err(Memory);
+    };
+    let gates = b.gates();
+    let mut rest = r;
+    while rest > 0 {
+        let last = (rest - 1) % gates;
+        rest = (rest - 1) / gates;
+        circuit.push_reserved(op_of(last, b).unwrap());
+    }
+    circuit.reverse();
+    Ok(circuit)
+}
