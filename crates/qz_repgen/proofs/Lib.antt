@@ -2,6 +2,6 @@ pub mod Listing
 pub mod Generation
 pub mod Turn
 pub mod Kept
-pub mod Assumed
+pub mod LowerLaws
 pub mod Flags
 pub mod TurnTaken

@@ -9,7 +9,7 @@ use Rattle.qz_circ.specs.Order.{all_circuits, circuit_at}
 use Rattle.qz_circ.specs.Classes.{IsKept, IsRepresentativeRank, IsMemberRank}
 use Rattle.qz_repgen.specs.declared.progress.Class.{Class}
 use Rattle.qz_repgen.specs.Progress.{ListsBelow, Covers, representatives_of, JoinsWhere, AreFlags, Opens}
-use Rattle.qz_repgen.proofs.Assumed.{ranks_are_order, reflexive, symmetric}
+use Rattle.qz_repgen.proofs.LowerLaws.{ranks_are_order, reflexive, symmetric}
 use Rattle.qz_repgen.proofs.Flags.{none_from_flags, one_from_flags}
 use Rattle.qz_repgen.proofs.Turn.{joined, joined_representatives, not_joined, no_class, own_class}
 

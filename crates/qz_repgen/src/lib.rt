@@ -13,8 +13,8 @@ ghost use Rattle.qz_circ.specs.Classes.{IsKept, IsClassList};
 ghost use Rattle.qz_repgen.specs.Progress.{Covers, AreFlags, representatives_of, circuits_in};
 
 use progress::{Class, has_representative, join_where_kept, open_class, several};
-use qz_circ::{Bounds, Classes, Memory, Op, Steps};
-use stand_in::{decide, rank, unrank};
+use qz_circ::{Bounds, Classes, Memory, Op, Steps, rank, unrank};
+use stand_in::decide;
 use std::alloc::Global;
 use std::marker::Brand;
 use std::sync::ledger::{Blank, Ledger};

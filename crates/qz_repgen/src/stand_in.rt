@@ -1,10 +1,9 @@
 //! Temporary.
-ghost use Rattle.std.specs.Prelude.{◌≡◌, ◌<◌, ◌≤◌, ◌+◌, ◌↔◌, length, IsTrue, IsSome, IfSome, IfOk};
-ghost use Rattle.qz_circ.specs.Circuit.{Within, IsOn};
-ghost use Rattle.qz_circ.specs.Order.{all_circuits, circuit_at, rank as rank_of};
+ghost use Rattle.std.specs.Prelude.{◌≡◌, ◌<◌, ◌≤◌, ◌+◌, ◌↔◌, length, IsTrue, IfOk};
+ghost use Rattle.qz_circ.specs.Circuit.{IsOn};
 ghost use Rattle.qz_circ.specs.Equivalence.{Equivalent};
 
-use qz_circ::{Bounds, Memory, Op, Steps};
+use qz_circ::{Memory, Op, Steps};
 use std::alloc::Global;
 use std::sync::ledger::Ledger;
 
@@ -25,18 +24,4 @@ pub fn decide<L: Ledger>(
 {
     steps.tick();
     Ok(a.len() == c.len())
-}
-
-pub fn rank(c: &[Op], b: Bounds) -> Option<u64>
-    ensures within { IsSome result ↔ Within b c.now }
-    ensures value { IfSome result (λ r. r ≡ rank_of b c.now) }
-{
-    Some(c.len() as u64 + b.n())
-}
-
-pub fn unrank(_alloc: Global, r: u64, b: Bounds) -> Result<Vec<Op>, Memory>
-    requires { r < length (all_circuits b) }
-    ensures { IfOk result (λ c. c.items ≡ circuit_at b r) }
-{
-    Err(Memory)
 }

@@ -8,7 +8,7 @@ use Rattle.qz_circ.specs.Circuit.{Within}
 use Rattle.qz_circ.specs.Order.{circuit_at, rank}
 use Rattle.qz_circ.specs.Classes.{IsKept}
 use Rattle.qz_repgen.specs.Progress.{Covers, AreFlags, JoinsWhere}
-use Rattle.qz_repgen.proofs.Assumed.{ranks_are_order}
+use Rattle.qz_repgen.proofs.LowerLaws.{ranks_are_order}
 use Rattle.qz_repgen.proofs.Turn.{representatives_below}
 use Rattle.qz_repgen.proofs.TurnTaken.{taken_in, opened}
 use Rattle.qz_repgen.proofs.advance.Goals as goal

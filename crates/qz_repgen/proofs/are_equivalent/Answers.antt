@@ -1,7 +1,7 @@
 use Rattle.std.proofs.Common.{◌+◌, ◌≤◌, length, sym, subst, arith}
 use Rattle.qz_circ.specs.Circuit.{Circuit, Within, IsOn}
 use Rattle.qz_circ.proofs.BoundsLemmas.{in_range}
-use Rattle.qz_repgen.proofs.Assumed.{is_on_from_within}
+use Rattle.qz_repgen.proofs.LowerLaws.{is_on_from_within}
 use Rattle.qz_repgen.proofs.are_equivalent.Given.{Over}
 use Rattle.qz_repgen.proofs.are_equivalent.Goals as goal
 use Rattle.qz_repgen.proofs.are_equivalent.Goals.{After-decide-arg-1}

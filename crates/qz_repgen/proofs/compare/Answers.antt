@@ -3,7 +3,7 @@ use Rattle.qz_circ.specs.Circuit.{Within}
 use Rattle.qz_circ.specs.Equivalence.{Equivalent}
 use Rattle.qz_circ.specs.Order.{circuit_at}
 use Rattle.qz_repgen.specs.Progress.{AreFlags}
-use Rattle.qz_repgen.proofs.Assumed.{ranks_are_order}
+use Rattle.qz_repgen.proofs.LowerLaws.{ranks_are_order}
 use Rattle.qz_repgen.proofs.Flags.{circuit_so_far, flag_pushed}
 use Rattle.qz_repgen.proofs.compare.Goals as goal
 

@@ -9,7 +9,7 @@ use Rattle.qz_circ.specs.Order.{all_circuits, circuit_at}
 use Rattle.qz_circ.specs.Classes.{IsClassList}
 use Rattle.qz_repgen.specs.declared.progress.Class.{Class}
 use Rattle.qz_repgen.specs.Progress.{Covers, circuits_in, several_of}
-use Rattle.qz_repgen.proofs.Assumed.{ranks_are_order}
+use Rattle.qz_repgen.proofs.LowerLaws.{ranks_are_order}
 use Rattle.qz_repgen.proofs.Generation.{class_list, members_are_ranks}
 use Rattle.qz_repgen.proofs.generate.Goals as goal
 
@@ -22,7 +22,7 @@ loop-r-preserved g c =
       count = omega (arith, ap length pushed, length-append c.loop-r.circuits.items (c.in_ok-circuit.circuit ∷ []));
       before =
           ap circuits_in pushed ∙ map-append (λ (x : Vec Op Global). x.items) c.loop-r.circuits.items (c.in_ok-circuit.circuit ∷ []) ∙
-          (λ i. c.loop-r.invariant.before i ++ c.in_ok-circuit.ensures i ∷ []) ∙ sym (take_more (all_circuits c.args.b) c.loop-r.r [] (omega arith));
+          (λ i. c.loop-r.invariant.before i ++ c.in_ok-circuit.ensures.circuit i ∷ []) ∙ sym (take_more (all_circuits c.args.b) c.loop-r.r [] (omega arith));
       classes = subst (λ k. Covers c.args.b (k + 1) c.advance.new.classes.items) count c.in_ok-advance.ensures;
     }
 

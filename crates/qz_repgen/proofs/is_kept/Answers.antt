@@ -4,7 +4,7 @@ use mathlib.Core.Bool.{false≢true}
 use Rattle.std.proofs.lemmas.Bool.Decides.{nat_tests}
 use Rattle.qz_circ.specs.Order.{rank}
 use Rattle.qz_repgen.specs.Progress.{representatives_of}
-use Rattle.qz_repgen.proofs.Assumed.{ranks_are_order, first_within, last_within}
+use Rattle.qz_repgen.proofs.LowerLaws.{ranks_are_order, first_within, last_within}
 use Rattle.qz_repgen.proofs.Kept.{parts_known, kept_by_parts}
 use Rattle.qz_repgen.proofs.is_kept.Goals as goal
 

@@ -11,4 +11,4 @@ pub returns-in-Some : goal.returns-in-Some
 returns-in-Some c =
     let found = list_any_contains (λ (x : Class). x.representative) c.args.classes.now c.in-Some.r in
     let by_rank = λ (r : ℕ). IsTrue c.has_representative.result ↔ Contains (representatives_of c.args.classes.now) r in
-    subst by_rank c.in-Some.ensures.value (λ is. found.0 (sym c.has_representative.ensures ∙ is), λ has. c.has_representative.ensures ∙ found.1 has)
+    subst by_rank c.in-Some.ensures.rank (λ is. found.0 (sym c.has_representative.ensures ∙ is), λ has. c.has_representative.ensures ∙ found.1 has)
