@@ -1,0 +1,14 @@
+use Rattle.std.proofs.Common.{◌≡◌, ℕ, ◌<◌, length, get_or, sym, subst, ap, arith}
+use Rattle.std.proofs.lemmas.List.{get_or_default}
+use Rattle.qz_repgen.specs.declared.progress.Class.{Class}
+use Rattle.qz_repgen.specs.Progress.{JoinsWhere}
+use Rattle.qz_repgen.proofs.Listing.{all_zip_from_each}
+use Rattle.qz_repgen.proofs.progress.join_classes.Goals as goal
+
+-- each class has joined
+pub returns : goal.returns
+returns c =
+    let old = c.args.classes.now.items in
+    let new = c.loop-k.classes.items in
+    all_zip_from_each (JoinsWhere c.args.flags.now c.args.r) old new c.loop-k.invariant.as_long
+    (λ i d e in_range. subst (λ y. JoinsWhere c.args.flags.now c.args.r (get_or old i d) y) (get_or_default new i d e (omega arith)) (c.loop-k.invariant.joined i d (omega arith)))
