@@ -1,5 +1,4 @@
 pub mod SinkLemmas
 pub mod WordLemmas
 pub mod TextLemmas
-pub mod NoGates
 pub mod CommandLemmas

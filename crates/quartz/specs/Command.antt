@@ -6,9 +6,9 @@ use Rattle.quartz.specs.Sink.{grown, HasPart}
 use Rattle.quartz.specs.Words.{Asks}
 use Rattle.quartz.specs.RuleText.{rule_text}
 
--- the classes of these limits aren't generated yet: there may be gates, over two qubits, or parameters
+-- the classes of these limits aren't generated yet: there may be over two gates, over two qubits, or parameters
 abbrev pub is_unbuilt : Limits → Bool
-is_unbuilt b = nat_lt 0 b.n || nat_lt 2 b.q || nat_lt 0 b.m
+is_unbuilt b = nat_lt 2 b.n || nat_lt 2 b.q || nat_lt 0 b.m
 
 -- the words ask for a lawful generation that isn't built
 pub record AsksUnbuilt (words : List (List ℕ)) : Type 0 where

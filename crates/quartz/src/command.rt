@@ -6,19 +6,19 @@ ghost use Rattle.quartz.specs.Words.{IsUsage, IsRefused};
 ghost use Rattle.quartz.specs.Command.{is_unbuilt, AsksUnbuilt, IsCommand, WritesRules, WritesPart};
 ghost use Rattle.quartz.specs.Status.{IsRefusal};
 
-use crate::generation::classes_of;
 use crate::rule_text::print;
 use crate::sink::{IoFault, Sink, deliver};
 use crate::status::Status;
 use crate::words::{WordFault, read_words};
 use qz_circ::{Bounds, Which};
+use qz_repgen::generate_one;
 use std::alloc::Global;
 
 // Whether the classes of the bounds aren't generated yet.
 fn is_unbuilt(b: Bounds) -> bool
     ensures { result ≡ is_unbuilt b }
 {
-    b.n() > 0 || b.q() > 2 || b.m() > 0
+    b.n() > 2 || b.q() > 2 || b.m() > 0
 }
 
 // Writes the rule text of the class list of the bounds.
@@ -32,7 +32,7 @@ fn write_rules<O: Sink>(alloc: Global, b: Bounds, out: &mut O) -> Status
     ensures faults { O.faults out.old ≤ O.faults out.new }
     ensures wants { O.wants out.old ≤ O.wants out.new }
 {
-    let Ok(classes) = classes_of(alloc, b) else {
+    let Ok(classes) = generate_one(alloc, b) else {
         return Status::Memory;
     };
     let Ok(text) = print(alloc, &classes) else {
