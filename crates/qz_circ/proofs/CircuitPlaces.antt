@@ -1,18 +1,18 @@
 -- The places of circuits in the list of all circuits within limits.
-use Rattle.std.proofs.Common.{◌≡◌, ℕ, zero, suc, ◌+◌, ◌-◌, ◌*◌, ◌/◌, ◌%◌, ◌^◌, ◌<◌, ◌≤◌, List, [], ◌∷◌, ◌++◌, map, length, get_or, take, drop, Contains, refl, sym, ap, ◌∙◌, subst, arith, add-one, zero-add, length-append, lt_of_mul-lt-mul_right}
+use Rattle.std.proofs.Common.{◌≡◌, ℕ, zero, suc, ◌+◌, ◌*◌, ◌<◌, ◌≤◌, List, [], ◌∷◌, ◌++◌, map, length, get_or, take, drop, Contains, refl, sym, ap, ◌∙◌, arith, add-one, zero-add, lt_of_mul-lt-mul_right}
 use Rattle.std.specs.List.{flat_map, range_with_len, AllByRecursion}
 use Rattle.std.proofs.lemmas.List.{length-map, get_or-map, map-append, get_or_append_left, length-take-le, length-take, length-drop}
 use Rattle.std.proofs.lemmas.List.Concat.{flat_map-append, get_or-flat_map}
 use Rattle.std.proofs.lemmas.List.Folds.{flat_map-map, length-flat_map-take}
 use Rattle.std.proofs.lemmas.List.FromFn.{length-range_with_len, get_or-range_with_len}
 use Rattle.std.proofs.lemmas.List.Elements.{All-from_recursion, recursion_from_All, All-contains_itself, All-drop, All-take}
-use Rattle.std.proofs.Math.Nat.{pow-suc, pow-zero, pow-succ', one-le-pow}
+use Rattle.std.proofs.Math.Nat.{pow-suc, pow-zero, pow-succ'}
 use Rattle.qz_circ.specs.declared.circuit.Op.{Op}
 use Rattle.qz_circ.specs.declared.circuit.Op.TheVariants.{H}
 use Rattle.qz_circ.specs.Circuit.{Circuit, Limits, Within, gates_of, below}
 use Rattle.qz_circ.specs.Bounds.{gate_count}
 use Rattle.qz_circ.specs.Order.{circuits_of, all_circuits, circuit_at}
-use Rattle.qz_circ.proofs.CircuitLists.{length_of_pieces, length-circuits_of, shorter, length-all_circuits}
+use Rattle.qz_circ.proofs.CircuitLists.{length_of_pieces, shorter}
 use Rattle.qz_circ.proofs.RisingLists.{each_weaker, each-map, each-flat_map, each-range}
 
 -- ---- pieces end to end

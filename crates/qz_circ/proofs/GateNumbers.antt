@@ -1,5 +1,5 @@
 -- The places of gates and angles in the lists of those within limits, and the order of those lists.
-use Rattle.std.proofs.Common.{◌≡◌, ℕ, zero, suc, ◌+◌, ◌-◌, ◌*◌, ◌/◌, ◌%◌, ◌<◌, ◌≤◌, Bool, true, false, cond, ltb, eqb, ◌&&◌, not, List, [], ◌∷◌, ◌++◌, map, filter, length, get_or, slice_get, Option, Some, None, Contains, refl, sym, ap, ◌∙◌, arith, is_lt, Ordering, Less, Equal, Greater, true≢false, ◌≢◌, unwrap_or, option_map, zero-add, lt-ltb, le-ltb, le-mul_of_pos_right}
+use Rattle.std.proofs.Common.{◌≡◌, ℕ, zero, suc, ◌+◌, ◌-◌, ◌*◌, ◌/◌, ◌%◌, ◌<◌, ◌≤◌, Bool, true, cond, ltb, eqb, ◌&&◌, not, List, [], ◌∷◌, ◌++◌, map, filter, length, slice_get, Some, Contains, refl, sym, ap, ◌∙◌, arith, is_lt, Ordering, Less, Equal, Greater, true≢false, ◌≢◌, unwrap_or, option_map, zero-add, lt-ltb, le-ltb, le-mul_of_pos_right}
 use Rattle.std.specs.Cmp.{IsTotalOrder, first_so, second_so}
 use Rattle.std.specs.Cmp.Lexicographic.{on_texts}
 use Rattle.std.specs.List.{flat_map, range_with_len, AllByRecursion}
@@ -13,7 +13,7 @@ use Rattle.qz_circ.specs.declared.circuit.Expr.TheVariants.{Const, Plus, Minus, 
 use Rattle.qz_circ.specs.declared.circuit.Op.{Op}
 use Rattle.qz_circ.specs.declared.circuit.Op.TheVariants.{H, X, Cx, Rz}
 use Rattle.qz_circ.specs.Circuit.{Limits, Circuit, gates_of, angles, below, between, ActsBelow, AngleHasBelow, HasBelow, IsOn}
-use Rattle.qz_circ.specs.Bounds.{gate_count, IsLawful}
+use Rattle.qz_circ.specs.Bounds.{IsLawful}
 use Rattle.qz_circ.specs.Order.{gate_cmp, gate_key}
 use Rattle.qz_circ.proofs.BoundsLemmas.{in_range}
 use Rattle.qz_circ.proofs.RisingLists.{Rising, each_of_all, each_weaker, each-append, each-map, each-flat_map, each-filter, each-range}

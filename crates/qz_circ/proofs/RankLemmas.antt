@@ -1,5 +1,5 @@
 -- Ranks: the place of a circuit among all circuits within limits is how many of them are earlier.
-use Rattle.std.proofs.Common.{◌≡◌, ℕ, zero, suc, ◌+◌, ◌-◌, ◌<◌, ◌≤◌, ◌↔◌, Bool, true, false, ltb, ltb-true, List, [], ◌∷◌, ◌++◌, map, length, get_or, take, drop, Contains, refl, sym, ap, ◌∙◌, subst, arith, is_lt, Less, ◌*◌, ◌/◌, ◌%◌, mod-lt, div-add-mod', div-le_self, mul-le-mul_right}
+use Rattle.std.proofs.Common.{◌≡◌, ℕ, zero, suc, ◌+◌, ◌-◌, ◌<◌, ◌≤◌, ◌↔◌, Bool, true, false, ltb, ltb-true, List, [], ◌∷◌, ◌++◌, map, length, get_or, Contains, sym, ap, ◌∙◌, arith, is_lt, Less, ◌*◌, ◌/◌, ◌%◌, mod-lt, div-add-mod', div-le_self, mul-le-mul_right}
 use Rattle.std.specs.Cmp.{IsTotalOrder, nat_cmp_total, on_total, then_total, tied_itself}
 use Rattle.std.specs.Cmp.Lexicographic.{lists_total, slice_cmp}
 use Rattle.std.specs.Ordering.{nat_cmp, ordering_then, ordering_reverse}

@@ -10,33 +10,28 @@ ghost use Rattle.qz_circ.specs.Classes.{without_first, without_last};
 pub fn circuits_are_at_their_ranks()
     ensures here { (b : Limits) → IsLawful b → (c : Circuit) → Within b c → circuit_at b (rank b c) ≡ c }
     ensures listed { (b : Limits) → IsLawful b → (c : Circuit) → Within b c → rank b c < length (all_circuits b) }
-{
-}
+{}
 
 /// The circuit at a rank is within the limits and has that rank.
 pub fn ranks_are_of_their_circuits()
     ensures within { (b : Limits) → IsLawful b → (r : ℕ) → r < length (all_circuits b) → Within b (circuit_at b r) }
     ensures same { (b : Limits) → IsLawful b → (r : ℕ) → r < length (all_circuits b) → rank b (circuit_at b r) ≡ r }
-{
-}
+{}
 
 /// Of two circuits within limits the earlier one has the smaller rank.
 pub fn ranks_are_in_order()
     ensures { (b : Limits) → IsLawful b → (c d : Circuit) → Within b c → Within b d → IsTrue (is_before c d) ↔ (rank b c < rank b d) }
-{
-}
+{}
 
 /// Gates within limits are on their qubits and have their parameters, and so for circuits.
 pub fn gates_are_below_limits()
     ensures qubits { (b : Limits) (g : Op) → Contains (gates_of b) g → ActsBelow b.q g }
     ensures params { (b : Limits) (g : Op) → Contains (gates_of b) g → HasBelow b.m g }
     ensures circuits { (b : Limits) (c : Circuit) → Within b c → IsOn b.q b.m c }
-{
-}
+{}
 
 /// Without its first or its last gate a circuit within limits is within them.
 pub fn parts_are_within()
     ensures first { (b : Limits) (c : Circuit) → Within b c → Within b (without_first c) }
     ensures last { (b : Limits) (c : Circuit) → Within b c → Within b (without_last c) }
-{
-}
+{}

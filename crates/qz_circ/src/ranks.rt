@@ -48,7 +48,7 @@ fn angle_of(number: u64, m: u64) -> Option<Expr>
 fn angle_place(angle: Expr, m: u64) -> u64
     requires { m ≤ 3 }
     ensures place { (k : ℕ) → slice_get (angles m) k ≡ Some angle → result ≡ k }
-    ensures few { result ≤ 1000 }
+    ensures few { result ≤ 522 }
 {
     match angle {
         Expr::Const(t) => u64::from(t.saturating_sub(1)),

@@ -1,5 +1,5 @@
 //! Worked rows, as tables.
-use crate::{length_of, op_number, op_of, rank, unrank, Bounds, Classes, Expr, LimitFault, Op};
+use crate::{Bounds, Classes, Expr, LimitFault, Op, length_of, op_number, op_of, rank, unrank};
 use std::test::Fail;
 
 #[test]

@@ -12,8 +12,7 @@ pub fn ranks_of_two_gates()
     ensures circuits { length (all_circuits (record { n = 2; q = 1; m = 0 })) ≡ 91 }
     ensures twenty_first { rank (record { n = 2; q = 1; m = 0 }) (X 0 ∷ Rz 0 (Const 1) ∷ []) ≡ 21 }
     ensures last { circuit_at (record { n = 2; q = 1; m = 0 }) 90 ≡ Rz 0 (Const 7) ∷ Rz 0 (Const 7) ∷ [] }
-{
-}
+{}
 
 /// H twice on one qubit, with its two factors 1/√2 left out, is twice the identity.
 pub fn h_twice_is_two()
@@ -21,13 +20,11 @@ pub fn h_twice_is_two()
     ensures at_0_1 { count (paths 1 (H 0 ∷ H 0 ∷ []) 0 1) zero_exponent ≡ pos 0 }
     ensures at_1_0 { count (paths 1 (H 0 ∷ H 0 ∷ []) 1 0) zero_exponent ≡ pos 0 }
     ensures at_1_1 { count (paths 1 (H 0 ∷ H 0 ∷ []) 1 1) zero_exponent ≡ pos 2 }
-{
-}
+{}
 
 /// The square root of two, twice, is two.
 pub fn root_twice_is_two()
     ensures at_0 { count (root2 2 (record { sign = pos 1; exponent = zero_exponent } ∷ [])) zero_exponent ≡ pos 2 }
     ensures at_64 { count (root2 2 (record { sign = pos 1; exponent = zero_exponent } ∷ [])) (turn_of 64) ≡ pos 0 }
     ensures at_128 { count (root2 2 (record { sign = pos 1; exponent = zero_exponent } ∷ [])) (turn_of 128) ≡ pos 0 }
-{
-}
+{}

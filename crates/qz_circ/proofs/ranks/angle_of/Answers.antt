@@ -1,7 +1,6 @@
-use Rattle.std.proofs.Common.{◌≡◌, ◌<◌, ◌∙◌, sym, ap, arith, slice_get, Some, rules}
+use Rattle.std.proofs.Common.{arith}
 use Rattle.std.proofs.lemmas.Bool.Decides.{nat_tests}
-use Rattle.qz_circ.specs.Circuit.{angles}
-use Rattle.qz_circ.proofs.GateNumbers.{angle_table, angle_listed, angle_at, angle_count}
+use Rattle.qz_circ.proofs.GateNumbers.{angle_table, angle_listed}
 use Rattle.qz_circ.proofs.ranks.angle_of.Goals as goal
 
 pub returns-then-number-lt7 : goal.returns-then-number-lt7
