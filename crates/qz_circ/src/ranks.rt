@@ -19,6 +19,7 @@ fn count_angles(m: u64) -> u64
 }
 
 // The angle with this number among those with m parameters.
+#[tactic(auto, using(std::proofs::lemmas::Bool::Decides::nat_tests, crate::proofs::GateNumbers::angle_listed))]
 fn angle_of(number: u64, m: u64) -> Option<Expr>
     requires { m ≤ 3 }
     ensures { result ≡ slice_get (angles m) number }
