@@ -1,10 +1,9 @@
 -- What limits that aren't refused meet, and how many gates and circuits are within limits.
-use Rattle.std.proofs.Common.{◌≡◌, ℕ, zero, suc, ◌+◌, ◌-◌, ◌*◌, ◌/◌, ◌^◌, ◌<◌, ◌≤◌, List, length, Option, Some, None, refl, sym, ap, ◌∙◌, arith, cond, ◌||◌, ltb, true, false, inl, inr}
+use Rattle.std.proofs.Common.{◌≡◌, ℕ, zero, suc, ◌+◌, ◌-◌, ◌*◌, ◌/◌, ◌^◌, ◌<◌, ◌≤◌, refl, arith}
 use Rattle.std.proofs.Math.Nat.{mul-le-mul_right}
 use Rattle.std.proofs.lemmas.Bool.Decides.{nat_tests}
-use Rattle.qz_circ.specs.declared.fault.LimitFault.TheVariants.{Qubits, Gates, Params, Circuits}
 use Rattle.qz_circ.specs.Circuit.{Limits, gates_of, angles}
-use Rattle.qz_circ.specs.Bounds.{refusal, gate_count, IsLawful, most_circuits}
+use Rattle.qz_circ.specs.Bounds.{refusal, gate_count, IsLawful}
 
 -- each number is in its range, and there are few enough circuits
 pub record InRange (b : Limits) : Type 0 where

@@ -1,10 +1,10 @@
 -- How many circuits there are of each length, and within limits.
-use Rattle.std.proofs.Common.{◌≡◌, ℕ, zero, suc, ◌+◌, ◌*◌, ◌^◌, ◌<◌, ◌≤◌, List, [], ◌∷◌, ◌++◌, map, length, refl, sym, ap, ◌∙◌, arith, length-append, add-one, zero-add}
+use Rattle.std.proofs.Common.{◌≡◌, ℕ, zero, suc, ◌+◌, ◌*◌, ◌^◌, ◌≤◌, List, [], ◌∷◌, map, length, refl, sym, ap, ◌∙◌, arith, length-append, add-one, zero-add}
 use Rattle.std.proofs.lemmas.List.{length-map}
 use Rattle.std.specs.List.{flat_map, range_with_len}
-use Rattle.std.proofs.Math.Nat.{pow-zero, pow-suc, pow-succ', one-le-pow, pow-le-pow_right, pow-le-pow_left, mul-le-mul_right}
+use Rattle.std.proofs.Math.Nat.{pow-zero, pow-succ', mul-le-mul_right}
 use Rattle.qz_circ.specs.declared.circuit.Op.{Op}
-use Rattle.qz_circ.specs.Circuit.{Circuit, Limits, gates_of, below}
+use Rattle.qz_circ.specs.Circuit.{Limits, gates_of}
 use Rattle.qz_circ.specs.Bounds.{gate_count}
 use Rattle.qz_circ.specs.Order.{circuits_of, all_circuits}
 

@@ -1,26 +1,28 @@
 -- The places of circuits in the list of all circuits within limits.
-use Rattle.std.proofs.Common.{◌≡◌, ℕ, zero, suc, ◌+◌, ◌-◌, ◌*◌, ◌/◌, ◌%◌, ◌^◌, ◌<◌, ◌≤◌, List, [], ◌∷◌, ◌++◌, map, length, get_or, take, drop, Contains, refl, sym, ap, ◌∙◌, subst, arith, add-one, zero-add, length-append, lt_of_mul-lt-mul_right}
+use Rattle.std.proofs.Common.{◌≡◌, ℕ, zero, suc, ◌+◌, ◌*◌, ◌<◌, ◌≤◌, List, [], ◌∷◌, ◌++◌, map, length, get_or, take, drop, Contains, refl, sym, ap, ◌∙◌, arith, add-one, zero-add, lt_of_mul-lt-mul_right}
 use Rattle.std.specs.List.{flat_map, range_with_len, AllByRecursion}
 use Rattle.std.proofs.lemmas.List.{length-map, get_or-map, map-append, get_or_append_left, length-take-le, length-take, length-drop}
 use Rattle.std.proofs.lemmas.List.Concat.{flat_map-append, get_or-flat_map}
 use Rattle.std.proofs.lemmas.List.Folds.{flat_map-map, length-flat_map-take}
 use Rattle.std.proofs.lemmas.List.FromFn.{length-range_with_len, get_or-range_with_len}
 use Rattle.std.proofs.lemmas.List.Elements.{All-from_recursion, recursion_from_All, All-contains_itself, All-drop, All-take}
-use Rattle.std.proofs.Math.Nat.{pow-suc, pow-zero, pow-succ', one-le-pow}
+use Rattle.std.proofs.Math.Nat.{pow-suc, pow-zero, pow-succ'}
 use Rattle.qz_circ.specs.declared.circuit.Op.{Op}
 use Rattle.qz_circ.specs.declared.circuit.Op.TheVariants.{H}
 use Rattle.qz_circ.specs.Circuit.{Circuit, Limits, Within, gates_of, below}
 use Rattle.qz_circ.specs.Bounds.{gate_count}
 use Rattle.qz_circ.specs.Order.{circuits_of, all_circuits, circuit_at}
-use Rattle.qz_circ.proofs.CircuitLists.{length_of_pieces, length-circuits_of, shorter, length-all_circuits}
+use Rattle.qz_circ.proofs.CircuitLists.{length_of_pieces, shorter}
 use Rattle.qz_circ.proofs.RisingLists.{each_weaker, each-map, each-flat_map, each-range}
 
 -- ---- pieces end to end
 
+-- a function of each element of pieces end to end
 map-flat_map : {A B C : Type 0} (g : B → C) (f : A → List B) (xs : List A) → map g (flat_map f xs) ≡ flat_map (λ x. map g (f x)) xs
 map-flat_map g f [] = refl
 map-flat_map g f (x ∷ xs) = map-append g (f x) (flat_map f xs) ∙ ap (λ rest. map g (f x) ++ rest) (map-flat_map g f xs)
 
+-- pieces of pieces
 flat_map-flat_map : {A B C : Type 0} (g : B → List C) (f : A → List B) (xs : List A) → flat_map g (flat_map f xs) ≡ flat_map (λ x. flat_map g (f x)) xs
 flat_map-flat_map g f [] = refl
 flat_map-flat_map g f (x ∷ xs) = flat_map-append g (f x) (flat_map f xs) ∙ ap (λ rest. flat_map g (f x) ++ rest) (flat_map-flat_map g f xs)
@@ -30,6 +32,7 @@ flat_map-agree : {A B : Type 0} (f g : A → List B) → ((x : A) → f x ≡ g 
 flat_map-agree f g h [] = refl
 flat_map-agree f g h (x ∷ xs) = λ i. h x i ++ flat_map-agree f g h xs i
 
+-- one function after another
 map-map : {A B C : Type 0} (g : B → C) (f : A → B) (xs : List A) → map g (map f xs) ≡ map (λ x. g (f x)) xs
 map-map g f [] = refl
 map-map g f (x ∷ xs) = ap (λ rest. g (f x) ∷ rest) (map-map g f xs)
@@ -41,6 +44,7 @@ place_in_pieces f n same xs i j e d h k =
     let inside : j < length (f (get_or xs i e)) = omega (arith, same (get_or xs i e)) in
     ap (λ m. get_or (flat_map f xs) (m + j) d) (sym front) ∙ get_or-flat_map f xs i j e d h inside
 
+-- what a function gives of an element stands in the list that it gives
 Contains-map : {A B : Type 0} (f : A → B) (xs : List A) (x : A) → Contains xs x → Contains (map f xs) (f x)
 Contains-map f xs x (k, within, is) = (k, omega (arith, length-map xs f), get_or-map f xs k x (f x) within ∙ ap f is)
 
@@ -51,6 +55,7 @@ Contains-flat_map f xs x y (i, within, is) (j, inside, there) =
     let inside_piece : j < length (f (get_or xs i x)) = rw is inside in
     (length (flat_map f (take i xs)) + j, omega (arith, length-flat_map-take f xs i x within), get_or-flat_map f xs i j x y within inside_piece ∙ ap (λ ys. get_or ys j y) piece ∙ there)
 
+-- a range in two parts
 range-append : (a n k : ℕ) → range_with_len a (n + k) ≡ range_with_len a n ++ range_with_len (a + n) k
 range-append a zero k = λ i. range_with_len (a_is i) (zero-add k i)
   where
@@ -72,6 +77,7 @@ flat_map-range_later f a (suc n) = λ i. f (add-one a i) ++ flat_map-range_later
 abbrev pub with_last : List Op → Circuit → List Circuit
 with_last gates c = map (λ g. c ++ g ∷ []) gates
 
+-- the circuits of one gate more are those of one fewer with each gate after them
 circuits-with_last : (gates : List Op) (k : ℕ) → circuits_of gates (suc k) ≡ flat_map (with_last gates) (circuits_of gates k)
 unfolding circuits_of
 circuits-with_last gates zero = first gates ∙ sym (append-nil' (map (λ g. [] ++ g ∷ []) gates))
@@ -117,16 +123,19 @@ pub shorter-with_last : (gates k : ℕ) → shorter gates (suc k) ≡ shorter ga
 shorter-with_last gates zero = omega (arith, pow-zero gates)
 shorter-with_last gates (suc k) = omega (arith, shorter-with_last gates k, pow-succ' gates k, pow-suc gates k)
 
+-- there are more circuits below a greater length
 pub shorter-monotone : (gates i k : ℕ) → shorter gates i ≤ shorter gates (i + k)
 shorter-monotone gates i zero = let same : i + 0 ≡ i = omega arith in rw same (omega arith)
 shorter-monotone gates i (suc k) =
     let longer : i + suc k ≡ suc (i + k) = omega arith in
     rw longer (omega (arith, shorter-monotone gates i k))
 
+-- the circuits within limits have at most n gates
 all_circuits_is : (b : Limits) → all_circuits b ≡ circuits_below (gates_of b) (suc b.n)
 unfolding all_circuits
 all_circuits_is b = refl
 
+-- a circuit by its place in that list
 circuit_at_is : (b : Limits) (r : ℕ) → circuit_at b r ≡ get_or (circuits_below (gates_of b) (suc b.n)) r []
 unfolding circuit_at all_circuits
 circuit_at_is b r = refl
@@ -153,6 +162,7 @@ circuit_at-with_last b s d r place digit within =
 
 -- ---- which circuits are listed
 
+-- the circuits of k gates have k gates, each of them one of the gates
 pub circuits_within : (gates : List Op) (k : ℕ) → AllByRecursion (λ c. (length c ≡ k) × AllByRecursion (Contains gates) c) (circuits_of gates k)
 unfolding circuits_of
 circuits_within gates zero = ((refl, tt), tt)
@@ -172,6 +182,7 @@ all_within b =
     (λ k h. each_weaker (λ c. (length c ≡ k) × AllByRecursion (Contains (gates_of b)) c) (Within b) (λ c w. record { short = omega (arith, h.1, w.0); gates = w.1 }) (circuits_of (gates_of b) k) (circuits_within (gates_of b) k))
     (below (suc b.n)) (each-range 0 (suc b.n)))
 
+-- a circuit of the gates is listed with those of its length
 circuits_of-contains : (gates : List Op) (c : Circuit) → AllByRecursion (Contains gates) c → Contains (circuits_of gates (length c)) c
 unfolding circuits_of
 circuits_of-contains gates [] h = (0, omega arith, refl)
@@ -199,6 +210,7 @@ within-drop b n c w =
     let all = All-drop (Contains (gates_of b)) n c (All-from_recursion (Contains (gates_of b)) c w.gates) in
     record { short = omega (arith, length-drop n c, w.short); gates = recursion_from_All (Contains (gates_of b)) (drop n c) all }
 
+-- the first gates of a circuit within limits are within limits
 pub within-take : (b : Limits) (n : ℕ) (c : Circuit) → Within b c → Within b (take n c)
 within-take b n c w =
     let all = All-take (Contains (gates_of b)) n c (All-from_recursion (Contains (gates_of b)) c w.gates) in

@@ -1,5 +1,5 @@
 -- The places of gates and angles in the lists of those within limits, and the order of those lists.
-use Rattle.std.proofs.Common.{◌≡◌, ℕ, zero, suc, ◌+◌, ◌-◌, ◌*◌, ◌/◌, ◌%◌, ◌<◌, ◌≤◌, Bool, true, false, cond, ltb, eqb, ◌&&◌, not, List, [], ◌∷◌, ◌++◌, map, filter, length, get_or, slice_get, Option, Some, None, Contains, refl, sym, ap, ◌∙◌, arith, is_lt, Ordering, Less, Equal, Greater, true≢false, ◌≢◌, unwrap_or, option_map, zero-add, lt-ltb, le-ltb, le-mul_of_pos_right}
+use Rattle.std.proofs.Common.{◌≡◌, ℕ, zero, suc, ◌+◌, ◌-◌, ◌*◌, ◌/◌, ◌%◌, ◌<◌, ◌≤◌, Bool, true, cond, ltb, eqb, ◌&&◌, not, List, [], ◌∷◌, ◌++◌, map, filter, length, slice_get, Some, Contains, refl, sym, ap, ◌∙◌, arith, is_lt, Ordering, Less, Equal, Greater, true≢false, ◌≢◌, unwrap_or, option_map, zero-add, lt-ltb, le-ltb, le-mul_of_pos_right}
 use Rattle.std.specs.Cmp.{IsTotalOrder, first_so, second_so}
 use Rattle.std.specs.Cmp.Lexicographic.{on_texts}
 use Rattle.std.specs.List.{flat_map, range_with_len, AllByRecursion}
@@ -13,7 +13,7 @@ use Rattle.qz_circ.specs.declared.circuit.Expr.TheVariants.{Const, Plus, Minus, 
 use Rattle.qz_circ.specs.declared.circuit.Op.{Op}
 use Rattle.qz_circ.specs.declared.circuit.Op.TheVariants.{H, X, Cx, Rz}
 use Rattle.qz_circ.specs.Circuit.{Limits, Circuit, gates_of, angles, below, between, ActsBelow, AngleHasBelow, HasBelow, IsOn}
-use Rattle.qz_circ.specs.Bounds.{gate_count, IsLawful}
+use Rattle.qz_circ.specs.Bounds.{IsLawful}
 use Rattle.qz_circ.specs.Order.{gate_cmp, gate_key}
 use Rattle.qz_circ.proofs.BoundsLemmas.{in_range}
 use Rattle.qz_circ.proofs.RisingLists.{Rising, each_of_all, each_weaker, each-append, each-map, each-flat_map, each-filter, each-range}
@@ -21,6 +21,10 @@ use Rattle.qz_circ.proofs.RisingLists.{Rising, each_of_all, each_weaker, each-ap
 -- how many angles there are with m parameters
 abbrev pub angle_count : ℕ → ℕ
 angle_count m = 7 + 2 * m + m * (m - 1) / 2
+
+-- how many gates there are on q qubits with m parameters
+abbrev pub table_length : ℕ → ℕ → ℕ
+table_length q m = q * (1 + q + angle_count m)
 
 -- the angle with this number
 abbrev pub angle_at : ℕ → ℕ → Expr
@@ -69,6 +73,7 @@ pub record AngleTable (m : ℕ) : Type 0 where
   pub angles_are : angles m ≡ map (angle_at m) (below (angle_count m))
   pub numbers_are : map (angle_number m) (angles m) ≡ below (angle_count m)
 
+-- the list of angles, computed for each number of parameters
 pub angle_table : (m : ℕ) → m ≤ 3 → AngleTable m
 unfolding angles
 angle_table zero h = record { count = refl; angles_are = refl; numbers_are = refl }
@@ -79,10 +84,11 @@ angle_table (suc (suc (suc (suc m)))) h = absurd (omega arith)
 
 -- the gates on q qubits with m parameters, by their numbers, rising
 pub record GateTable (gates : List Op) (q m : ℕ) : Type 0 where
-  pub gates_are : gates ≡ map (gate_at q m) (below (q * (1 + q + angle_count m)))
-  pub numbers_are : map (gate_number q m) gates ≡ below (q * (1 + q + angle_count m))
+  pub gates_are : gates ≡ map (gate_at q m) (below (table_length q m))
+  pub numbers_are : map (gate_number q m) gates ≡ below (table_length q m)
   pub rising : adjacent gates ≡ true
 
+-- the list of gates, computed for each number of qubits and parameters
 pub gate_table : (n q m : ℕ) → 0 < q → q ≤ 3 → m ≤ 3 → GateTable (gates_of (record { n = n; q = q; m = m })) q m
 unfolding gates_of angles gate_cmp
 gate_table n (suc zero) zero p h k = record { gates_are = refl; numbers_are = refl; rising = refl }
@@ -103,9 +109,7 @@ gate_table n q (suc (suc (suc (suc m)))) p h k = absurd (omega arith)
 
 -- ---- elements by their places
 
-abbrev pub table_length : ℕ → ℕ → ℕ
-table_length q m = q * (1 + q + angle_count m)
-
+-- the number at a place of the numbers from 0 on
 slice_get-below : (n k : ℕ) → k < n → slice_get (below n) k ≡ Some k
 slice_get-below n k h =
     let within : k < length (below n) = omega (arith, length-range_with_len 0 n) in
@@ -124,20 +128,27 @@ place_of f xs n k x e h =
     let there : slice_get (map f xs) k ≡ Some k = ap (λ ys. slice_get ys k) e ∙ slice_get-below n k (omega arith) in
     ap (λ o. unwrap_or o 0) (here ∙ there)
 
-pub angle_listed : (m k : ℕ) → m ≤ 3 → k < angle_count m → slice_get (angles m) k ≡ Some (angle_at m k)
-angle_listed m k h l = listed_at (angle_at m) (angles m) (angle_count m) k (angle_table m h).angles_are l
+-- the angle at a place
+pub angle_listed : (m k : ℕ) → m ≤ 3 → k < length (angles m) → slice_get (angles m) k ≡ Some (angle_at m k)
+angle_listed m k h l =
+    let table = angle_table m h in
+    listed_at (angle_at m) (angles m) (angle_count m) k table.angles_are (omega (arith, table.count))
 
+-- an angle's place
 pub angle_place : (m k : ℕ) (e : Expr) → m ≤ 3 → slice_get (angles m) k ≡ Some e → angle_number m e ≡ k
 angle_place m k e h l = place_of (angle_number m) (angles m) (angle_count m) k e (angle_table m h).numbers_are l
 
+-- the gate at a place
 pub gate_listed : (n q m k : ℕ) → 0 < q → q ≤ 3 → m ≤ 3 → k < table_length q m → slice_get (gates_of (record { n = n; q = q; m = m })) k ≡ Some (gate_at q m k)
 gate_listed n q m k p h j l = listed_at (gate_at q m) (gates_of (record { n = n; q = q; m = m })) (table_length q m) k (gate_table n q m p h j).gates_are l
 
+-- a gate's place
 pub gate_place : (n q m k : ℕ) (g : Op) → 0 < q → q ≤ 3 → m ≤ 3 → slice_get (gates_of (record { n = n; q = q; m = m })) k ≡ Some g → gate_number q m g ≡ k
 gate_place n q m k g p h j l = place_of (gate_number q m) (gates_of (record { n = n; q = q; m = m })) (table_length q m) k g (gate_table n q m p h j).numbers_are l
 
 -- ---- the order of gates
 
+-- gates are totally ordered
 pub gate_cmp-total : IsTotalOrder gate_cmp
 unfolding gate_cmp
 gate_cmp-total = on_texts gate_key
@@ -146,14 +157,17 @@ gate_cmp-total = on_texts gate_key
 abbrev pub gate_before : Op → Op → Bool
 gate_before f g = is_lt (gate_cmp f g)
 
+-- the ordering that passes the test for less
 pub less_is : (r : Ordering) → is_lt r ≡ true → r ≡ Less
 less_is Less e = refl
 less_is Equal e = absurd (true≢false (sym e))
 less_is Greater e = absurd (true≢false (sym e))
 
+-- before chains
 pub before_chain : (f g h : Op) → gate_before f g ≡ true → gate_before g h ≡ true → gate_before f h ≡ true
 before_chain f g h p q = ap is_lt (gate_cmp-total.trans f g h (less_is (gate_cmp f g) p) (less_is (gate_cmp g h) q))
 
+-- where each gate is before the next, each is before all later ones
 rising_from_adjacent : (gs : List Op) → adjacent gs ≡ true → Rising gate_before gs
 rising_from_adjacent [] e = tt
 rising_from_adjacent (f ∷ []) e = (tt, tt)
@@ -162,6 +176,7 @@ rising_from_adjacent (f ∷ g ∷ gs) e =
     let rest = rising_from_adjacent (g ∷ gs) (second_so (gate_before f g) (adjacent (g ∷ gs)) e) in
     ((first, each_weaker (λ h. gate_before g h ≡ true) (λ h. gate_before f h ≡ true) (λ h p. before_chain f g h first p) gs rest.0), rest)
 
+-- the gates within limits rise
 pub gates_rising : (b : Limits) → IsLawful b → Rising gate_before (gates_of b)
 gates_rising b h =
     let range = in_range b h in
@@ -169,6 +184,7 @@ gates_rising b h =
 
 -- ---- what gates within limits are
 
+-- the angles with m parameters have only those
 angles_below : (m : ℕ) → AllByRecursion (AngleHasBelow m) (angles m)
 unfolding angles
 angles_below m =
@@ -190,12 +206,15 @@ pub record OfEachKind (P : Op → Type 0) (q m : ℕ) : Type 0 where
   pub of_rz : (t : ℕ) (e : Expr) → t < q → Contains (angles m) e → P (Rz t e)
 
 module _ (P : Op → Type 0) (b : Limits) (each : OfEachKind P b.q b.m) where
+  -- the number is in the range of the qubits
   abbrev IsQubit : ℕ → Type 0
   IsQubit k = (0 ≤ k) × (k < 0 + b.q)
 
+  -- the qubits other than c
   abbrev others : ℕ → List ℕ
   others c = filter (λ t. not (eqb t c)) (below b.q)
 
+  -- of each gate of two qubits
   of_pairs : AllByRecursion P (flat_map (λ c. map (Cx c) (others c)) (below b.q))
   of_pairs = each-flat_map P (λ c. map (Cx c) (others c)) (below b.q) (each_weaker IsQubit (λ c. AllByRecursion P (map (Cx c) (others c))) of_pair (below b.q) (each-range 0 b.q))
     where
@@ -207,12 +226,14 @@ module _ (P : Op → Type 0) (b : Limits) (each : OfEachKind P b.q b.m) where
           (each_weaker (λ t. IsQubit t × (not (eqb t c) ≡ true)) (λ t. P (Cx c t)) (λ t l. each.of_cx c t (omega (arith, h.1)) (omega (arith, l.0.1)) (other c t l.1))
           (others c) (each-filter IsQubit (λ t. not (eqb t c)) (below b.q) (each-range 0 b.q)))
 
+  -- of each rotation
   of_rotations : AllByRecursion P (flat_map (λ t. map (Rz t) (angles b.m)) (below b.q))
   of_rotations = each-flat_map P (λ t. map (Rz t) (angles b.m)) (below b.q) (each_weaker IsQubit (λ t. AllByRecursion P (map (Rz t) (angles b.m))) of_rotation (below b.q) (each-range 0 b.q))
     where
       of_rotation : (t : ℕ) → IsQubit t → AllByRecursion P (map (Rz t) (angles b.m))
       of_rotation t h = each-map P (Rz t) (angles b.m) (each_weaker (Contains (angles b.m)) (λ e. P (Rz t e)) (λ e l. each.of_rz t e (omega (arith, h.1)) l) (angles b.m) (recursion_from_All (Contains (angles b.m)) (angles b.m) (All-contains_itself (angles b.m))))
 
+  -- of each gate
   of_gates : AllByRecursion P (gates_of b)
   unfolding gates_of
   of_gates =
@@ -223,6 +244,7 @@ module _ (P : Op → Type 0) (b : Limits) (each : OfEachKind P b.q b.m) where
       each-append P (map H (below b.q) ++ map X (below b.q) ++ cxs) rzs
       (each-append P (map H (below b.q) ++ map X (below b.q)) cxs (each-append P (map H (below b.q)) (map X (below b.q)) hs xs) of_pairs) of_rotations
 
+  -- of a gate that is listed
   pub of_gate : (g : Op) → Contains (gates_of b) g → P g
   of_gate g h = All-contains P (gates_of b) g (All-from_recursion P (gates_of b) of_gates) h
 
@@ -230,6 +252,7 @@ module _ (P : Op → Type 0) (b : Limits) (each : OfEachKind P b.q b.m) where
 abbrev pub IsWithin : Limits → Op → Type 0
 IsWithin b g = ActsBelow b.q g × HasBelow b.m g
 
+-- a gate within limits is on their qubits and parameters
 pub gate_below : (b : Limits) (g : Op) → Contains (gates_of b) g → IsWithin b g
 gate_below b g h = of_gate (IsWithin b) b record {
   of_h = λ t l. (l, tt);
@@ -238,6 +261,7 @@ gate_below b g h = of_gate (IsWithin b) b record {
   of_rz = λ t e l k. (l, All-contains (AngleHasBelow b.m) (angles b.m) e (All-from_recursion (AngleHasBelow b.m) (angles b.m) (angles_below b.m)) k);
 } g h
 
+-- and so is each gate of a circuit
 pub circuit_below : (b : Limits) (c : Circuit) → AllByRecursion (Contains (gates_of b)) c → IsOn b.q b.m c
 circuit_below b c h = each_weaker (Contains (gates_of b)) (IsWithin b) (gate_below b) c h
 
@@ -248,6 +272,7 @@ HasAngle m (X t) = Unit {0}
 HasAngle m (Cx c t) = Unit {0}
 HasAngle m (Rz t e) = Contains (angles m) e
 
+-- a rotation within limits has one of the angles
 pub has_angle : (b : Limits) (g : Op) → Contains (gates_of b) g → HasAngle b.m g
 has_angle b g h = of_gate (HasAngle b.m) b record {
   of_h = λ t l. tt;
@@ -260,6 +285,7 @@ has_angle b g h = of_gate (HasAngle b.m) b record {
 pub listed_from_contains : {A : Type 0} (xs : List A) (x : A) → (h : Contains xs x) → slice_get xs h.0 ≡ Some x
 listed_from_contains xs x h = slice_get-get_or xs h.0 x h.1 ∙ ap Some h.2
 
+-- what stands at a place is in the list
 pub contains_from_listed : {A : Type 0} (xs : List A) (k : ℕ) (x : A) → slice_get xs k ≡ Some x → Contains xs x
 contains_from_listed xs k x h = (k, slice_get_within xs k x h, get_or_from_slice_get xs k x x h)
 
@@ -273,19 +299,23 @@ angle_of_gate n q m k t e h l =
 -- ---- the gates of each kind by their numbers
 
 module _ (n q m : ℕ) (p : 0 < q) (h : q ≤ 3) (j : m ≤ 3) where
+  -- the length of the list of gates
   pub gates_have_length : length (gates_of (record { n = n; q = q; m = m })) ≡ table_length q m
   gates_have_length = ap length (gate_table n q m p h j).gates_are ∙ length-map (below (table_length q m)) (gate_at q m) ∙ length-range_with_len 0 (table_length q m)
 
+  -- the first q gates are H
   pub h_at : (k : ℕ) → k < q → slice_get (gates_of (record { n = n; q = q; m = m })) k ≡ Some (H k)
   h_at k l =
       let is : gate_at q m k ≡ H k = rw (lt-ltb k q l) refl in
       gate_listed n q m k p h j (omega arith) ∙ ap Some is
 
+  -- the next q gates are X
   pub x_at : (k : ℕ) → q ≤ k → k < 2 * q → slice_get (gates_of (record { n = n; q = q; m = m })) k ≡ Some (X (k - q))
   x_at k l u =
       let is : gate_at q m k ≡ X (k - q) = rw (le-ltb k q l, lt-ltb k (2 * q) u) refl in
       gate_listed n q m k p h j (omega (arith, le-mul_of_pos_right q p)) ∙ ap Some is
 
+  -- then come the gates of two qubits, by control and then target
   pub cx_at : (k : ℕ) → 2 * q + k < q + q * q → slice_get (gates_of (record { n = n; q = q; m = m })) (2 * q + k) ≡ Some (Cx (k / (q - 1)) (other_at (k / (q - 1)) (k % (q - 1))))
   cx_at k u =
       let back : 2 * q + k - 2 * q ≡ k = omega arith in
@@ -294,6 +324,7 @@ module _ (n q m : ℕ) (p : 0 < q) (h : q ≤ 3) (j : m ≤ 3) where
       let is : gate_at q m (2 * q + k) ≡ Cx (k / (q - 1)) (other_at (k / (q - 1)) (k % (q - 1))) = rw (le-ltb (2 * q + k) q not_h, le-ltb (2 * q + k) (2 * q) not_x, lt-ltb (2 * q + k) (q + q * q) u, back) refl in
       gate_listed n q m (2 * q + k) p h j (omega (arith, u)) ∙ ap Some is
 
+  -- and then the rotations, by qubit and then angle
   pub rz_at : (k : ℕ) → k < q * angle_count m → slice_get (gates_of (record { n = n; q = q; m = m })) (q + q * q + k) ≡ Some (Rz (k / angle_count m) (angle_at m (k % angle_count m)))
   rz_at k u =
       let more : q ≤ q * q = le-mul_of_pos_right q p in

@@ -9,22 +9,27 @@ pub each_of_all : {A : Type 0} (P : A → Type 0) → ((x : A) → P x) → (xs 
 each_of_all P h [] = tt
 each_of_all P h (x ∷ xs) = (h x, each_of_all P h xs)
 
+-- what holds of each element, weakened
 pub each_weaker : {A : Type 0} (P Q : A → Type 0) → ((x : A) → P x → Q x) → (xs : List A) → AllByRecursion P xs → AllByRecursion Q xs
 each_weaker P Q h [] k = tt
 each_weaker P Q h (x ∷ xs) k = (h x k.0, each_weaker P Q h xs k.1)
 
+-- from two facts of each element a third
 pub each_both : {A : Type 0} (P Q R : A → Type 0) → ((x : A) → P x → Q x → R x) → (xs : List A) → AllByRecursion P xs → AllByRecursion Q xs → AllByRecursion R xs
 each_both P Q R h [] k l = tt
 each_both P Q R h (x ∷ xs) k l = (h x k.0 l.0, each_both P Q R h xs k.1 l.1)
 
+-- of each element of two lists end to end
 pub each-append : {A : Type 0} (P : A → Type 0) (xs ys : List A) → AllByRecursion P xs → AllByRecursion P ys → AllByRecursion P (xs ++ ys)
 each-append P [] ys h k = k
 each-append P (x ∷ xs) ys h k = (h.0, each-append P xs ys h.1 k)
 
+-- of each element of a list made by a function
 pub each-map : {A B : Type 0} (P : B → Type 0) (f : A → B) (xs : List A) → AllByRecursion (λ x. P (f x)) xs → AllByRecursion P (map f xs)
 each-map P f [] h = tt
 each-map P f (x ∷ xs) h = (h.0, each-map P f xs h.1)
 
+-- of each element of pieces end to end
 pub each-flat_map : {A B : Type 0} (P : B → Type 0) (f : A → List B) (xs : List A) → AllByRecursion (λ x. AllByRecursion P (f x)) xs → AllByRecursion P (flat_map f xs)
 each-flat_map P f [] h = tt
 each-flat_map P f (x ∷ xs) h = each-append P (f x) (flat_map f xs) h.0 (each-flat_map P f xs h.1)
@@ -52,10 +57,12 @@ Rising before (x ∷ xs) = AllByRecursion (λ y. before x y ≡ true) xs × Risi
 abbrev pub AllBefore : {A : Type 0} → (A → A → Bool) → List A → List A → Type 0
 AllBefore before xs ys = AllByRecursion (λ x. AllByRecursion (λ y. before x y ≡ true) ys) xs
 
+-- two rising lists end to end, where the first is before the second
 pub rising-append : {A : Type 0} (before : A → A → Bool) (xs ys : List A) → Rising before xs → Rising before ys → AllBefore before xs ys → Rising before (xs ++ ys)
 rising-append before [] ys h k l = k
 rising-append before (x ∷ xs) ys h k l = (each-append (λ y. before x y ≡ true) xs ys h.0 l.0, rising-append before xs ys h.1 k l.1)
 
+-- a rising list made by a function that keeps the order
 pub rising-map : {A B : Type 0} (first : A → A → Bool) (before : B → B → Bool) (f : A → B) → ((x y : A) → first x y ≡ true → before (f x) (f y) ≡ true) → (xs : List A) → Rising first xs → Rising before (map f xs)
 rising-map first before f h [] k = tt
 rising-map first before f h (x ∷ xs) k = (each-map (λ y. before (f x) y ≡ true) f xs (each_weaker (λ y. first x y ≡ true) (λ y. before (f x) (f y) ≡ true) (h x) xs k.0), rising-map first before f h xs k.1)
@@ -66,6 +73,7 @@ rising_weaker P first before h [] p k = tt
 rising_weaker P first before h (x ∷ xs) p k = (each_both P (λ y. first x y ≡ true) (λ y. before x y ≡ true) (λ y q l. h x y p.0 q l) xs p.1 k.0, rising_weaker P first before h xs p.1 k.1)
 
 module _ {A B : Type 0} (first : A → A → Bool) (before : B → B → Bool) (f : A → List B) (across : (x y : A) → first x y ≡ true → AllBefore before (f x) (f y)) where
+  -- a piece is before all later pieces
   before_rest : (x : A) (ys : List A) → AllByRecursion (λ y. first x y ≡ true) ys → AllBefore before (f x) (flat_map f ys)
   before_rest x [] h = each_of_all (λ u. AllByRecursion (λ v. before u v ≡ true) []) (λ u. tt) (f x)
   before_rest x (y ∷ ys) h =
@@ -78,6 +86,7 @@ module _ {A B : Type 0} (first : A → A → Bool) (before : B → B → Bool) (
   rising-flat_map each [] k = tt
   rising-flat_map each (x ∷ xs) k = rising-append before (f x) (flat_map f xs) (each x) (rising-flat_map each xs k.1) (before_rest x xs k.0)
 
+-- the numbers of a range rise
 pub rising-range : (a n : ℕ) → Rising ltb (range_with_len a n)
 rising-range a zero = tt
 rising-range a (suc n) = (each_weaker (λ k. (a + 1 ≤ k) × (k < a + 1 + n)) (λ k. ltb a k ≡ true) (λ k h. lt-ltb a k (omega arith)) (range_with_len (a + 1) n) (each-range (a + 1) n), rising-range (a + 1) n)
@@ -99,6 +108,7 @@ abbrev one_if : Bool → ℕ
 one_if b = cond b 1 0
 
 module _ {A : Type 0} (before : A → A → Bool) (irrefl : (x : A) → before x x ≡ false) (asym : (x y : A) → before x y ≡ true → before y x ≡ false) where
+  -- where x is before each element, none is before x
   none_earlier : (x : A) (xs : List A) → AllByRecursion (λ y. before x y ≡ true) xs → count_by (λ d. before d x) xs ≡ 0
   none_earlier x [] h = refl
   none_earlier x (y ∷ ys) h =

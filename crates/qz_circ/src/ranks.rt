@@ -19,6 +19,7 @@ fn count_angles(m: u64) -> u64
 }
 
 // The angle with this number among those with m parameters.
+#[tactic(auto, using(std::proofs::lemmas::Bool::Decides::nat_tests, crate::proofs::GateNumbers::angle_listed))]
 fn angle_of(number: u64, m: u64) -> Option<Expr>
     requires { m ≤ 3 }
     ensures { result ≡ slice_get (angles m) number }
@@ -48,7 +49,7 @@ fn angle_of(number: u64, m: u64) -> Option<Expr>
 fn angle_place(angle: Expr, m: u64) -> u64
     requires { m ≤ 3 }
     ensures place { (k : ℕ) → slice_get (angles m) k ≡ Some angle → result ≡ k }
-    ensures few { result ≤ 1000 }
+    ensures few { result ≤ 522 }
 {
     match angle {
         Expr::Const(t) => u64::from(t.saturating_sub(1)),

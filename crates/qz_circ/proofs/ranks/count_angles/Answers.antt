@@ -1,4 +1,4 @@
-use Rattle.std.proofs.Common.{◌∙◌, sym, ap, ◌+◌, ◌*◌, ◌/◌}
+use Rattle.std.proofs.Common.{sym}
 use Rattle.qz_circ.proofs.GateNumbers.{angle_table}
 use Rattle.qz_circ.proofs.ranks.count_angles.Goals as goal
 

@@ -1,6 +1,6 @@
-use Rattle.std.proofs.Common.{◌≡◌, ◌+◌, ◌-◌, ◌/◌, ◌%◌, ◌<◌, ◌≤◌, ◌∙◌, ap, arith, length}
+use Rattle.std.proofs.Common.{◌≡◌, ◌-◌, ◌/◌, ◌%◌, ◌≤◌, ◌∙◌, ap, arith, length}
 use Rattle.qz_circ.specs.Order.{circuit_at}
-use Rattle.qz_circ.proofs.BoundsLemmas.{in_range, nine_gates}
+use Rattle.qz_circ.proofs.BoundsLemmas.{in_range}
 use Rattle.qz_circ.proofs.CircuitPlaces.{circuit_at-zero, circuit_at-within}
 use Rattle.qz_circ.proofs.RankLemmas.{LastGate, last_gate, some_gate}
 use Rattle.qz_circ.proofs.ranks.length_of.Goals as goal

@@ -1,4 +1,4 @@
-use Rattle.std.proofs.Common.{◌≡◌, ℕ, Bool, true, false, ◌∙◌, sym, refl, ap, arith, rules, Some, None, Option, slice_get, Contains, is_some, unwrap_or, true≢false}
+use Rattle.std.proofs.Common.{◌≡◌, ℕ, ◌∙◌, sym, refl, ap, arith, rules, Some, slice_get, Contains, is_some, unwrap_or, true≢false}
 use Rattle.qz_circ.specs.declared.circuit.Op.{Op}
 use Rattle.qz_circ.specs.Circuit.{Limits, gates_of}
 use Rattle.qz_circ.proofs.BoundsLemmas.{in_range}

@@ -1,5 +1,4 @@
 use Rattle.std.proofs.Common.{◌≡◌, ◌+◌, ◌-◌, ◌*◌, ◌∙◌, sym, ap, arith, Some, ltb, cond, lt-ltb, le-ltb}
-use Rattle.qz_circ.specs.declared.circuit.Op.TheVariants.{Cx, Rz}
 use Rattle.qz_circ.proofs.GateNumbers.{gate_number, gate_place, angle_number, angle_count, angle_table, angle_of_gate}
 use Rattle.qz_circ.proofs.ranks.op_place.Goals as goal
 use Rattle.qz_circ.proofs.ranks.op_place.Goals.{then-c-t, else-c-t}

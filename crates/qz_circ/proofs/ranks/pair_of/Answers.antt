@@ -1,4 +1,4 @@
-use Rattle.std.proofs.Common.{◌-◌, ◌+◌, ◌/◌, ◌%◌, ◌<◌, ◌∙◌, ap, arith, Some, cond, lt-ltb, le-ltb}
+use Rattle.std.proofs.Common.{◌-◌, ◌+◌, ◌/◌, ◌%◌, ◌∙◌, ap, arith, Some, cond, lt-ltb, le-ltb}
 use Rattle.qz_circ.specs.declared.circuit.Op.TheVariants.{Cx}
 use Rattle.qz_circ.proofs.GateNumbers.{cx_at}
 use Rattle.qz_circ.proofs.ranks.pair_of.Goals as goal

@@ -1,11 +1,10 @@
-use Rattle.std.proofs.Common.{◌≡◌, ℕ, suc, ◌+◌, ◌*◌, ◌-◌, ◌<◌, ◌≤◌, ◌++◌, ◌∷◌, [], ◌∙◌, sym, refl, ap, subst, arith, add-one, length, take, get_or, slice_get, Some, take_all}
+use Rattle.std.proofs.Common.{◌≡◌, suc, ◌+◌, ◌*◌, ◌-◌, ◌<◌, ◌++◌, ◌∷◌, [], ◌∙◌, sym, refl, ap, subst, arith, add-one, length, get_or, take_all}
 use Rattle.std.proofs.Math.Nat.{pow-zero}
 use Rattle.std.proofs.lemmas.List.{take_more}
 use Rattle.std.proofs.lemmas.Option.{slice_get_within, get_or_from_slice_get}
 use Rattle.qz_circ.specs.declared.circuit.Op.TheVariants.{H}
 use Rattle.qz_circ.specs.Circuit.{Within, gates_of}
 use Rattle.qz_circ.specs.Bounds.{gate_count}
-use Rattle.qz_circ.specs.Order.{all_circuits, circuit_at, rank}
 use Rattle.qz_circ.proofs.CircuitLists.{shorter, length-all_circuits}
 use Rattle.qz_circ.proofs.CircuitPlaces.{circuit_at-zero, circuit_at-within, shorter-monotone}
 use Rattle.qz_circ.proofs.RankLemmas.{OneMore, one_more, all_few, Placed, rank_is_place}

@@ -1,4 +1,4 @@
-use Rattle.std.proofs.Common.{◌≡◌, ◌+◌, ◌*◌, ◌/◌, ◌%◌, ◌<◌, ◌≤◌, ◌∙◌, sym, ap, arith, Option, Some, None, length, slice_get, mod-lt}
+use Rattle.std.proofs.Common.{◌≡◌, ◌+◌, ◌*◌, ◌/◌, ◌%◌, ◌∙◌, sym, ap, arith, Option, Some, None, slice_get, mod-lt}
 use Rattle.std.proofs.lemmas.Option.{slice_get_past}
 use Rattle.qz_circ.specs.declared.circuit.Expr.{Expr}
 use Rattle.qz_circ.specs.declared.circuit.Op.TheVariants.{Rz}
@@ -17,7 +17,7 @@ returns-then-number-q c n =
 angle_is : (c : After-angle_of) → c.angle_of.result ≡ Some (angle_at c.args.m (c.args.number % angle_count c.args.m))
 angle_is c =
     let count = c.count_angles-angles.ensures.count ∙ (angle_table c.args.m c.requires.params).count in
-    c.angle_of.ensures ∙ ap (λ k. slice_get (angles c.args.m) (c.args.number % k)) count ∙ angle_listed c.args.m (c.args.number % angle_count c.args.m) c.requires.params (mod-lt c.args.number (omega arith))
+    c.angle_of.ensures ∙ ap (λ k. slice_get (angles c.args.m) (c.args.number % k)) count ∙ angle_listed c.args.m (c.args.number % angle_count c.args.m) c.requires.params (omega (arith, (angle_table c.args.m c.requires.params).count, mod-lt c.args.number {m = angle_count c.args.m} (omega arith)))
 
 pub returns-in-Some : goal.returns-in-Some
 returns-in-Some c n =

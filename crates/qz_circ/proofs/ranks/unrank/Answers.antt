@@ -1,4 +1,4 @@
-use Rattle.std.proofs.Common.{◌≡◌, ℕ, ◌+◌, ◌-◌, ◌/◌, ◌%◌, ◌<◌, ◌≤◌, ◌++◌, ◌∷◌, [], ◌∙◌, sym, refl, ap, subst, arith, length, reverse, get_or, slice_get, Some, is_some, unwrap_or, append_assoc}
+use Rattle.std.proofs.Common.{◌≡◌, ◌-◌, ◌/◌, ◌%◌, ◌++◌, ◌∷◌, [], ◌∙◌, sym, ap, subst, arith, reverse, is_some, append_assoc}
 use Rattle.std.proofs.lemmas.List.{reverse-append}
 use Rattle.std.proofs.lemmas.Option.{slice_get-get_or, get_or_from_slice_get}
 use Rattle.qz_circ.specs.declared.circuit.Op.TheVariants.{H}
@@ -6,7 +6,7 @@ use Rattle.qz_circ.specs.Circuit.{Within, gates_of}
 use Rattle.qz_circ.specs.Bounds.{gate_count}
 use Rattle.qz_circ.specs.Order.{circuit_at, rank}
 use Rattle.qz_circ.proofs.CircuitPlaces.{circuit_at-zero, circuit_at-within}
-use Rattle.qz_circ.proofs.RankLemmas.{LastGate, last_gate, some_gate, rank-circuit_at}
+use Rattle.qz_circ.proofs.RankLemmas.{last_gate, some_gate, rank-circuit_at}
 use Rattle.qz_circ.proofs.ranks.unrank.Goals as goal
 use Rattle.qz_circ.proofs.ranks.unrank.Goals.{After-reverse}
 
