@@ -1,20 +1,19 @@
 -- Columns of circuits: the start, one more gate, and what is small.
-use Rattle.std.proofs.Common.{◌≡◌, ℕ, zero, suc, ◌+◌, ◌-◌, ◌*◌, ◌^◌, ◌<◌, ◌≤◌, ◌≢◌, ◌==◌, Bool, true, false, ◌&&◌, List, [], ◌∷◌, ◌++◌, length, get_or, take, sym, ap, subst, ◌∙◌, refl, arith, add-one}
-use Rattle.std.specs.Prelude.{ℤ, pos, ◌+ℤ◌, ◌-ℤ◌, if◌then◌else◌}
+use Rattle.std.proofs.Common.{◌≡◌, ℕ, zero, suc, ◌+◌, ◌*◌, ◌^◌, ◌<◌, ◌≤◌, ◌≢◌, ◌==◌, Bool, true, false, ◌&&◌, List, [], ◌∷◌, length, get_or, take, sym, ap, subst, ◌∙◌, refl, arith, add-one}
+use Rattle.std.specs.Prelude.{pos, ◌+ℤ◌, ◌-ℤ◌, if◌then◌else◌}
 use Rattle.std.specs.Ordering.{int_eq}
-use Rattle.std.specs.List.{flat_map, AllByRecursion}
-use Rattle.std.proofs.lemmas.Int.{ints}
+use Rattle.std.specs.List.{AllByRecursion}
 use Rattle.std.proofs.lemmas.List.Sums.{fold_more}
 use Rattle.std.proofs.lemmas.Bool.Decides.{nat_tests}
 use Rattle.std.proofs.Math.Nat.{pow-suc, pow-le-pow_right}
 use Rattle.qz_circ.specs.declared.circuit.Op.{Op}
-use Rattle.qz_circ.specs.Circuit.{Circuit, below, ActsBelow, HasBelow, IsOn}
-use Rattle.qz_circ.specs.Exponent.{Exponent, IsExponent, zero_exponent, same_exponent}
-use Rattle.qz_circ.specs.Paths.{Path, Ways, count as path_count, total, products, entry, through, stay, way_if, root2, root2_once}
-use Rattle.qz_ring.specs.Exponent.{Exponent as Monomial, IsExponent as IsMonomial, minus, turned, zero_exponent as no_monomial, same_exponent as same_monomial, turn_alone}
-use Rattle.qz_ring.specs.Terms.{Terms, count, coefficient_at, weight_of, largest_reach}
+use Rattle.qz_circ.specs.Circuit.{Circuit, IsOn}
+use Rattle.qz_circ.specs.Exponent.{zero_exponent, same_exponent}
+use Rattle.qz_circ.specs.Paths.{Path, Ways, count as path_count, total, entry, through, stay, way_if, root2, root2_once}
+use Rattle.qz_ring.specs.Exponent.{Exponent as Monomial, minus, turned, zero_exponent as no_monomial, same_exponent as same_monomial, turn_alone}
+use Rattle.qz_ring.specs.Terms.{Terms, weight_of, largest_reach}
 use Rattle.qz_ring.specs.Shifting.{IsTimesRoot2}
-use Rattle.qz_equiv.specs.Entries.{exponent_of, AreProper, one_way, IsEntry, row, IsColumn, IsLight, gathered, IsGathered, IsNextColumn, IsPlain, paths_from, scaled_stay, scaled_paths}
+use Rattle.qz_equiv.specs.Entries.{exponent_of, one_way, IsEntry, row, IsColumn, IsLight, gathered, IsNextColumn, IsPlain, scaled_stay, scaled_paths}
 use Rattle.qz_equiv.proofs.Totals.{count-none, count-root2_once, AreProper-root2_once}
 use Rattle.qz_equiv.proofs.GatheredLemmas.{gathered_all}
 
@@ -34,8 +33,9 @@ light_column size n ways column small is_column i less =
 -- the column after one more gate has the counts of the ways through it
 pub next_column : (q n : ℕ) (g : Op) (ways : ℕ → List Path) (old new : List Terms) → q ≤ 3 → IsPlain q g → IsColumn (2 ^ q) n ways old → IsNextColumn (2 ^ q) g old new → IsColumn (2 ^ q) (n + 1) (λ i. gathered (2 ^ q) g i ways) new
 next_column q n g ways old new small plain before next = record {
-    rows = next.rows;
-    entries = λ i less. gathered_all q g i old n ways (row new i) small plain.0 less before (next.entries i less) }
+  rows = next.rows;
+  entries = λ i less. gathered_all q g i old n ways (row new i) small plain.0 less before (next.entries i less);
+}
 
 -- one more gate of a circuit
 more_paths : (q h : ℕ) (c : Circuit) (k : ℕ) (d : Op) (j i : ℕ) → k < length c → scaled_paths q h (take (k + 1) c) j i ≡ gathered (2 ^ q) (get_or c k d) i (scaled_paths q h (take k c) j)
@@ -64,13 +64,14 @@ same_agree m e = regroup (m.turn == e.turn) (int_eq m.x0 e.x0) (int_eq m.x1 e.x1
 pub entry_one : IsEntry 0 (one_way false zero_exponent) (record { exponent = no_monomial; coefficient = pos 1 } ∷ [])
 unfolding path_count total
 entry_one = record {
-    proper = (omega arith, tt);
-    counts = λ e he.
+  proper = (omega arith, tt);
+  counts = λ e he.
       let here = same_agree no_monomial e in
       let half = same_agree no_monomial (turned e 256) in
       (λ t. ((if here t then pos 1 else pos 0) +ℤ pos 0) -ℤ ((if half t then pos 1 else pos 0) +ℤ pos 0));
-    weight = omega arith;
-    reach = omega arith }
+  weight = omega arith;
+  reach = omega arith;
+}
 
 -- no terms have the counts of no way
 pub entry_none : (n : ℕ) → IsEntry n [] []
@@ -79,13 +80,14 @@ entry_none n = record { proper = tt; counts = λ e he. sym (count-none (exponent
 -- one more power of the square root of two
 pub entry_root2 : (n : ℕ) (ps : List Path) (old new : Terms) → IsEntry n ps old → IsTimesRoot2 old new → weight_of new ≤ 2 * weight_of old → largest_reach new ≤ largest_reach old → IsEntry (n + 1) (root2_once ps) new
 entry_root2 n ps old new before times weight reach = record {
-    proper = AreProper-root2_once ps;
-    counts = λ e he.
+  proper = AreProper-root2_once ps;
+  counts = λ e he.
       let first = before.counts (minus e (turn_alone 64)) (omega arith) in
       let second = before.counts (minus e (turn_alone 192)) (omega arith) in
       times e he ∙ (λ t. first t -ℤ second t) ∙ sym (count-root2_once ps (exponent_of e) before.proper he);
-    weight = omega (arith, weight, before.weight, pow-suc 2 n, ap (λ k. 2 ^ k) (add-one n));
-    reach = omega (arith, reach, before.reach) }
+  weight = omega (arith, weight, before.weight, pow-suc 2 n, ap (λ k. 2 ^ k) (add-one n));
+  reach = omega (arith, reach, before.reach);
+}
 
 root2-suc : (h : ℕ) (ps : List Path) → root2 (suc h) ps ≡ root2_once (root2 h ps)
 unfolding root2
@@ -114,7 +116,7 @@ unfolding stay
 start_other h i j apart =
     let test : (i == j) ≡ false = grind (arith, nat_tests) in
     subst (λ (b : Bool). IsEntry h (root2 h (way_if b (pos 1) zero_exponent)) []) (sym test)
-      (subst (λ (rs : List Path). IsEntry h rs []) (sym (root2-none h)) (entry_none h))
+    (subst (λ (rs : List Path). IsEntry h rs []) (sym (root2-none h)) (entry_none h))
 
 -- a small bound leaves room for one more root
 pub root2_room : (n : ℕ) (ps : List Path) (ts : Terms) → n ≤ 100 → IsEntry n ps ts → weight_of ts ≤ 2 ^ 119

@@ -1,14 +1,14 @@
 -- Circuits are equivalent exactly where some monomial takes one matrix to the other.
-use Rattle.std.proofs.Common.{◌≡◌, ℕ, ◌+◌, ◌^◌, ◌<◌, ◌≤◌, List, length, Bool, sym, ap, subst, ◌∙◌, refl, arith}
+use Rattle.std.proofs.Common.{◌≡◌, ℕ, ◌^◌, ◌<◌, List, Bool, sym, ap, subst, ◌∙◌, arith}
 use Rattle.std.specs.Prelude.{IsTrue, ◌↔◌}
 use Rattle.qz_circ.specs.Circuit.{Circuit}
-use Rattle.qz_circ.specs.Exponent.{Exponent, IsExponent, minus as exponent_minus}
-use Rattle.qz_circ.specs.Paths.{Ways, count as path_count, halves}
+use Rattle.qz_circ.specs.Exponent.{Exponent}
+use Rattle.qz_circ.specs.Paths.{Ways, halves}
 use Rattle.qz_circ.specs.Equivalence.{scaled, SameUpTo, Equivalent}
 use Rattle.qz_ring.specs.Exponent.{Exponent as Monomial, IsExponent as IsMonomial, minus}
-use Rattle.qz_ring.specs.Terms.{Terms, count}
-use Rattle.qz_equiv.specs.Entries.{exponent_of, monomial_of, row, column, IsEntry, IsColumn, IsMatrix, paths_from, scaled_stay}
-use Rattle.qz_equiv.specs.Phases.{IsMatrixShift, HasPhase, SameShape, AreLow}
+use Rattle.qz_ring.specs.Terms.{Terms}
+use Rattle.qz_equiv.specs.Entries.{exponent_of, monomial_of, row, column, IsEntry, IsMatrix, paths_from, scaled_stay}
+use Rattle.qz_equiv.specs.Phases.{IsMatrixShift, HasPhase}
 use Rattle.qz_equiv.proofs.Starts.{scaled-from}
 
 -- the matrix of a circuit has the scaled ways of it and another one
@@ -24,12 +24,13 @@ entry_at size n ways m i j is hi hj = (is.entries j hj).entries i hi
 -- a monomial that takes one matrix to the other takes the ways of one circuit to those of the other
 same_ways : (q n k : ℕ) (a c : Ways) (x y : List (List Terms)) → IsMatrix (2 ^ q) n a x → IsMatrix (2 ^ q) k c y → (u : Monomial) → IsMonomial u → IsMatrixShift u x y → SameUpTo q (exponent_of u) a c
 same_ways q n k a c x y first second u proper shift = record {
-    phase = proper;
-    counts = λ i j e hi hj he.
+  phase = proper;
+  counts = λ i j e hi hj he.
       let here = (entry_at (2 ^ q) n a x i j first hi hj).counts (monomial_of e) he in
       let there = (entry_at (2 ^ q) k c y i j second hi hj).counts (minus (monomial_of e) u) (omega arith) in
       let moved = shift j (subst (λ s. j < s) (sym first.columns) hj) i (subst (λ s. i < s) (sym (first.entries j hj).rows) hi) (monomial_of e) he in
-      sym here ∙ moved ∙ there }
+      sym here ∙ moved ∙ there;
+}
 
 -- and the other way round
 same_entries : (q n k : ℕ) (a c : Ways) (x y : List (List Terms)) → IsMatrix (2 ^ q) n a x → IsMatrix (2 ^ q) k c y → (u : Exponent) → SameUpTo q u a c → IsMatrixShift (monomial_of u) x y
@@ -42,20 +43,7 @@ same_entries q n k a c x y first second u same j hj i hi e he =
 
 -- the answer on matrices is the answer on circuits
 pub decided : (q n k : ℕ) (a c : Circuit) (x y : List (List Terms)) (same : Bool) → IsMatrix (2 ^ q) n (scaled q a c) x → IsMatrix (2 ^ q) k (scaled q c a) y → (IsTrue same ↔ HasPhase x y) → (IsTrue same ↔ Equivalent q a c)
-decided q n k a c x y same first second told =
-    (λ h. let phase = told.0 h in (exponent_of phase.0, same_ways q n k (scaled q a c) (scaled q c a) x y first second phase.0 phase.1 phase.2),
-     λ h. told.1 (monomial_of h.0, h.1.phase, same_entries q n k (scaled q a c) (scaled q c a) x y first second h.0 h.1))
-
--- both matrices have the same shape
-pub same_shape : (size n k : ℕ) (a c : Ways) (x y : List (List Terms)) → IsMatrix size n a x → IsMatrix size k c y → SameShape x y
-same_shape size n k a c x y first second = record {
-    columns = first.columns ∙ sym second.columns;
-    rows = λ j hj. let j_in : j < size = subst (λ s. j < s) first.columns hj in (first.entries j j_in).rows ∙ sym (second.entries j j_in).rows }
-
--- the powers in a matrix are small where its bound is
-pub low_matrix : (size n : ℕ) (ways : Ways) (m : List (List Terms)) → n ≤ 100 → IsMatrix size n ways m → AreLow m
-low_matrix size n ways m small is j hj i hi =
-    let j_in : j < size = subst (λ s. j < s) is.columns hj in
-    let i_in : i < size = subst (λ s. i < s) (is.entries j j_in).rows hi in
-    let here = ((is.entries j j_in).entries i i_in).reach in
-    omega (arith, here, small)
+decided q n k a c x y same first second told = (
+  λ h. let phase = told.0 h in (exponent_of phase.0, same_ways q n k (scaled q a c) (scaled q c a) x y first second phase.0 phase.1 phase.2),
+  λ h. told.1 (monomial_of h.0, h.1.phase, same_entries q n k (scaled q a c) (scaled q c a) x y first second h.0 h.1),
+)

@@ -1,6 +1,6 @@
 -- Laws of exponents: sums, differences and half turns.
-use Rattle.std.proofs.Common.{◌≡◌, ℕ, ◌+◌, ◌-◌, ◌%◌, ◌<◌, ◌==◌, Bool, true, false, ◌&&◌, sym, ap, ◌∙◌, refl, arith}
-use Rattle.std.specs.Prelude.{ℤ, pos, ◌+ℤ◌, ◌-ℤ◌}
+use Rattle.std.proofs.Common.{◌≡◌, ℕ, ◌+◌, ◌-◌, ◌%◌, ◌<◌, ◌==◌, ◌&&◌, ap, refl, arith}
+use Rattle.std.specs.Prelude.{ℤ, ◌+ℤ◌, ◌-ℤ◌}
 use Rattle.std.specs.Ordering.{int_eq}
 use Rattle.std.specs.Bool.{Decides}
 use Rattle.std.proofs.lemmas.Int.{ints}
@@ -15,20 +15,16 @@ exponent_eq d e t a b c = (λ i. record { turn = t i; x0 = a i; x1 = b i; x2 = c
 pub Decides-same_exponent : (d e : Exponent) → Decides (same_exponent d e) (d ≡ e)
 Decides-same_exponent d e =
     let parts = Decides-and (((d.turn == e.turn) && int_eq d.x0 e.x0) && int_eq d.x1 e.x1) (int_eq d.x2 e.x2)
-                  (Decides-and ((d.turn == e.turn) && int_eq d.x0 e.x0) (int_eq d.x1 e.x1)
-                    (Decides-and (d.turn == e.turn) (int_eq d.x0 e.x0) (Decides-eqb d.turn e.turn) (Decides-int_eq d.x0 e.x0))
-                    (Decides-int_eq d.x1 e.x1))
-                  (Decides-int_eq d.x2 e.x2) in
+    (Decides-and ((d.turn == e.turn) && int_eq d.x0 e.x0) (int_eq d.x1 e.x1)
+    (Decides-and (d.turn == e.turn) (int_eq d.x0 e.x0) (Decides-eqb d.turn e.turn) (Decides-int_eq d.x0 e.x0))
+    (Decides-int_eq d.x1 e.x1))
+    (Decides-int_eq d.x2 e.x2) in
     Decides-like (same_exponent d e) (λ p. exponent_eq d e p.0.0.0 p.0.0.1 p.0.1 p.1)
-      (λ p. (((ap (λ (x : Exponent). x.turn) p, ap (λ (x : Exponent). x.x0) p), ap (λ (x : Exponent). x.x1) p), ap (λ (x : Exponent). x.x2) p)) parts
+    (λ p. (((ap (λ (x : Exponent). x.turn) p, ap (λ (x : Exponent). x.x0) p), ap (λ (x : Exponent). x.x1) p), ap (λ (x : Exponent). x.x2) p)) parts
 
 -- two tests of equal facts have the same result
 pub same_like : (d e d' e' : Exponent) → (d ≡ e → d' ≡ e') → (d' ≡ e' → d ≡ e) → same_exponent d e ≡ same_exponent d' e'
 same_like d e d' e' there back = same_from_decides (same_exponent d e) (same_exponent d' e') (Decides-same_exponent d e) (Decides-like (same_exponent d' e') back there (Decides-same_exponent d' e'))
-
--- the test of an exponent with itself
-pub same_self : (e : Exponent) → same_exponent e e ≡ true
-same_self e = (Decides-same_exponent e e).1 refl
 
 -- a sum of turns and the difference that undoes it
 turn_there : (p r e : ℕ) → p < 512 → r < 512 → e < 512 → (p + r) % 512 ≡ e → p ≡ (e + (512 - r)) % 512

@@ -1,6 +1,6 @@
 -- The entries of a column after one gate.
-use Rattle.std.proofs.Common.{◌≡◌, ℕ, zero, suc, ◌+◌, ◌-◌, ◌*◌, ◌^◌, ◌<◌, ◌≤◌, ◌==◌, max, Bool, true, false, ◌||◌, ◌&&◌, not, ◌≢◌, cond, List, [], ◌∷◌, ◌++◌, length, sym, ap, subst, ◌∙◌, refl, arith, add-one, length-append}
-use Rattle.std.specs.Prelude.{ℤ, pos, negsuc, ◌+ℤ◌, neg_ℤ, nat_le}
+use Rattle.std.proofs.Common.{◌≡◌, ℕ, zero, suc, ◌+◌, ◌*◌, ◌^◌, ◌<◌, ◌≤◌, ◌==◌, max, Bool, true, false, ◌||◌, ◌&&◌, ◌≢◌, List, [], ◌∷◌, ◌++◌, length, sym, ap, subst, ◌∙◌, refl, arith, add-one, length-append}
+use Rattle.std.specs.Prelude.{ℤ, pos, ◌+ℤ◌, nat_le}
 use Rattle.std.specs.List.{flat_map, range_with_len, list_all}
 use Rattle.std.proofs.lemmas.Int.{ints}
 use Rattle.std.proofs.lemmas.Bool.Decides.{nat_tests}
@@ -10,11 +10,10 @@ use Rattle.qz_circ.specs.declared.circuit.Op.{Op}
 use Rattle.qz_circ.specs.declared.circuit.Op.TheVariants.{H, X, Cx, Rz}
 use Rattle.qz_circ.specs.declared.circuit.Expr.{Expr}
 use Rattle.qz_circ.specs.Circuit.{below, ActsBelow}
-use Rattle.qz_circ.specs.Exponent.{Exponent, IsExponent}
-use Rattle.qz_circ.specs.Paths.{Path, Ways, count as path_count, total, products, entry, way_if, has_bit, flipped}
+use Rattle.qz_circ.specs.Paths.{Path, count as path_count, products, entry}
 use Rattle.qz_ring.specs.Exponent.{Exponent as Monomial, IsExponent as IsMonomial, minus}
 use Rattle.qz_ring.specs.Terms.{Terms, count, weight_of, largest_reach}
-use Rattle.qz_equiv.specs.Entries.{exponent_of, monomial_of, AreProper, one_way, turn_alone, ways_of, signed, IsEntry, row, IsColumn, gathered, AddsWay, IsGathered, IsLight}
+use Rattle.qz_equiv.specs.Entries.{exponent_of, monomial_of, AreProper, one_way, turn_alone, signed, IsEntry, row, IsColumn, gathered, AddsWay, IsGathered, IsLight}
 use Rattle.qz_equiv.proofs.Starts.{Through, none, one, through_entry}
 use Rattle.qz_equiv.proofs.Totals.{count-none, count-times_one, count-times_none, count-append, AreProper-products, AreProper-append}
 
@@ -118,35 +117,38 @@ few_before g i (suc k) =
 -- no entries yet
 pub gathered_none : (size : ℕ) (g : Op) (i : ℕ) (column : List Terms) → IsGathered size g i column 0 []
 gathered_none size g i column = record {
-    counts = λ n ways h e he. sym (count-none (exponent_of e));
-    weight = λ m h. omega arith;
-    reach = λ m h. omega arith }
+  counts = λ n ways h e he. sym (count-none (exponent_of e));
+  weight = λ m h. omega arith;
+  reach = λ m h. omega arith;
+}
 
 -- one more entry
 pub gathered_more : (size : ℕ) (g : Op) (i : ℕ) (column : List Terms) (k : ℕ) (old new : Terms) → k < length column → IsGathered size g i column k old → AddsWay (row column k) (entry g i k) old new → IsGathered size g i column (k + 1) new
 gathered_more size g i column k old new less before adds = record {
-    counts = λ n ways h e he.
+  counts = λ n ways h e he.
       let entry_k = h.entries k (subst (λ s. k < s) h.rows less) in
       let pieces = ap (λ ps. path_count ps (exponent_of e)) (flat_map-below (λ k. products (ways k) (entry g i k)) k) in
       adds.counts (ways k) entry_k.proper entry_k.counts e he ∙
       ap (λ z. z +ℤ path_count (products (ways k) (entry g i k)) (exponent_of e)) (before.counts n ways h e he) ∙
       sym (count-append (gathered k g i ways) (products (ways k) (entry g i k)) (exponent_of e)) ∙
       sym pieces;
-    weight = λ m h.
+  weight = λ m h.
       let here = ap length (flat_map-below (entry g i) k) in
       let part : weight_of (row column k) * length (entry g i k) ≤ m * length (entry g i k) = mul-le-mul_right (length (entry g i k)) (h k less) in
       omega (arith, adds.weight, before.weight m h, part, length-append (flat_map (entry g i) (below k)) (entry g i k), mul-add m (length (flat_map (entry g i) (below k))) (length (entry g i k)), ap (λ n. m * n) (here ∙ length-append (flat_map (entry g i) (below k)) (entry g i k)));
-    reach = λ m h. omega (arith, adds.reach, before.reach m h, h k less) }
+  reach = λ m h. omega (arith, adds.reach, before.reach m h, h k less);
+}
 
 -- all entries
 pub gathered_all : (q : ℕ) (g : Op) (i : ℕ) (column : List Terms) (n : ℕ) (ways : ℕ → List Path) (sum : Terms) → q ≤ 3 → ActsBelow q g → i < 2 ^ q → IsColumn (2 ^ q) n ways column → IsGathered (2 ^ q) g i column (2 ^ q) sum → IsEntry (n + 1) (gathered (2 ^ q) g i ways) sum
 gathered_all q g i column n ways sum h on less is_column all = record {
-    proper = AreProper-gathered (below (2 ^ q));
-    counts = λ e he. all.counts n ways is_column e he;
-    weight = let few = few_ways q g i h on less in
+  proper = AreProper-gathered (below (2 ^ q));
+  counts = λ e he. all.counts n ways is_column e he;
+  weight = let few = few_ways q g i h on less in
       let most = all.weight (2 ^ n) (λ k k_less. (is_column.entries k (subst (λ s. k < s) is_column.rows k_less)).weight) in
       omega (arith, few, most, mul-le-mul_left (2 ^ n) few, pow-suc 2 n, ap (λ k. 2 ^ k) (add-one n));
-    reach = let most = all.reach n (λ k k_less. (is_column.entries k (subst (λ s. k < s) is_column.rows k_less)).reach) in omega (arith, most) }
+  reach = let most = all.reach n (λ k k_less. (is_column.entries k (subst (λ s. k < s) is_column.rows k_less)).reach) in omega (arith, most);
+}
   where
     AreProper-gathered : (ks : List ℕ) → AreProper (flat_map (λ k. products (ways k) (entry g i k)) ks)
     AreProper-gathered [] = tt
@@ -155,18 +157,34 @@ gathered_all q g i column n ways sum h on less is_column all = record {
 -- a part after a way
 pub adds_none : (part old : Terms) → AddsWay part [] old old
 adds_none part old = record {
-    counts = λ ps proper h e he. let none = count-times_none ps (exponent_of e) in omega (arith, ints);
-    weight = omega arith;
-    reach = omega arith }
+  counts = λ ps proper h e he. let none = count-times_none ps (exponent_of e) in omega (arith, ints);
+  weight = omega arith;
+  reach = omega arith;
+}
+
+pub adds_zero : (negated : Bool) (turn : ℕ) (part old : Terms) → turn < 512 → part ≡ [] → AddsWay part (one_way negated (turn_alone turn)) old old
+adds_zero negated turn part old small zero_part = record {
+  counts = λ ps proper h e he.
+      let there : pos 0 ≡ path_count ps (exponent_of (minus e (monomial_of (turn_alone turn)))) = ap (λ (ts : Terms). count ts (minus e (monomial_of (turn_alone turn)))) (sym zero_part) ∙ h (minus e (monomial_of (turn_alone turn))) (omega arith) in
+      let times = count-times_one negated (turn_alone turn) ps (exponent_of e) proper small he in
+      plus_nothing negated (count old e) (sym (times ∙ ap (signed negated) (sym there)));
+  weight = omega arith;
+  reach = omega arith;
+}
+  where
+    plus_nothing : (b : Bool) (x : ℤ) {z : ℤ} → signed b (pos 0) ≡ z → x ≡ x +ℤ z
+    plus_nothing true x h = omega (arith, ints)
+    plus_nothing false x h = omega (arith, ints)
 
 pub adds_one : (negated : Bool) (turn : ℕ) (part old new : Terms) → turn < 512 → ((e : Monomial) → IsMonomial e → count new e ≡ count old e +ℤ signed negated (count part (minus e (monomial_of (turn_alone turn))))) → weight_of new ≤ weight_of old + weight_of part → largest_reach new ≤ max (largest_reach old) (largest_reach part) → AddsWay part (one_way negated (turn_alone turn)) old new
 adds_one negated turn part old new small counts weight reach = record {
-    counts = λ ps proper h e he.
+  counts = λ ps proper h e he.
       let there = h (minus e (monomial_of (turn_alone turn))) (omega arith) in
       let times = count-times_one negated (turn_alone turn) ps (exponent_of e) proper small he in
       counts e he ∙ ap (λ z. count old e +ℤ signed negated z) there ∙ ap (λ z. count old e +ℤ z) (sym times);
-    weight = omega (arith, weight);
-    reach = reach }
+  weight = omega (arith, weight);
+  reach = reach;
+}
 
 -- one more entry, where the part and the way are given by other names
 pub gathered_step : (size : ℕ) (g : Op) (i : ℕ) (column : List Terms) (k : ℕ) (part : Terms) (way : List Path) (old new : Terms) → k < length column → IsGathered size g i column k old → part ≡ row column k → entry g i k ≡ way → AddsWay part way old new → IsGathered size g i column (k + 1) new

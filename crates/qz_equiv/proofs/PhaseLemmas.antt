@@ -1,7 +1,6 @@
 -- The monomials that can take one matrix to another are found among the exponents of one entry.
-use Rattle.std.proofs.Common.{◌≡◌, ◌≢◌, ℕ, zero, suc, ◌+◌, ◌-◌, ◌%◌, ◌^◌, ◌<◌, ◌≤◌, max, Bool, true, false, not, List, [], ◌∷◌, length, Option, Some, None, ℤ, pos, ◌+ℤ◌, ◌-ℤ◌, neg_ℤ, to_z, of_z, sym, ap, subst, ◌∙◌, refl, arith, ◌⊎◌, inl, inr, ⊎_elim}
-use Rattle.std.specs.Prelude.{unsigned_abs, slice_get, if◌then◌else◌, IsTrue, ◌↔◌, is_some, MatchOption}
-use Rattle.std.specs.Bool.{Decides}
+use Rattle.std.proofs.Common.{◌≡◌, ◌≢◌, ℕ, zero, suc, ◌<◌, ◌≤◌, Bool, true, false, not, List, [], ◌∷◌, length, Option, Some, None, ℤ, pos, ◌-ℤ◌, neg_ℤ, to_z, of_z, sym, ap, subst, ◌∙◌, refl, arith, ◌⊎◌, inl, inr, ⊎_elim}
+use Rattle.std.specs.Prelude.{unsigned_abs, slice_get, IsTrue, ◌↔◌, is_some, MatchOption}
 use Rattle.std.specs.Int.{w64}
 use Rattle.std.proofs.lemmas.Int.{ints, to_z-of_z, fits_signed_from_abs}
 use Rattle.qz_ring.specs.Exponent.{Exponent as Monomial, IsExponent as IsMonomial, minus, plus, turned, zero_exponent, reach_of, same_exponent}
@@ -9,7 +8,7 @@ use Rattle.qz_ring.specs.Terms.{Term, Terms, count, coefficient_at, largest_reac
 use Rattle.qz_ring.proofs.Numbers.{unsigned_abs-add, unsigned_abs-neg}
 use Rattle.qz_ring.proofs.Order.{same_from_parts, same_exponent-decides}
 use Rattle.qz_equiv.specs.Entries.{row, column}
-use Rattle.qz_equiv.specs.Phases.{IsShift, IsColumnShift, IsMatrixShift, HasPhase, IsLead, IsZeroColumn, IsPivotOfColumn, IsZeroMatrix, IsPivot, FailsAt, SameShape}
+use Rattle.qz_equiv.specs.Phases.{IsMatrixShift, HasPhase, IsZeroMatrix, IsPivot, FailsAt, SameShape}
 
 -- the difference of two powers, as the code makes it, is their difference
 pub power_difference : (x y p q : ℤ) → x ≡ p → y ≡ q → unsigned_abs p ≤ 100 → unsigned_abs q ≤ 100 → to_z w64 (of_z w64 (to_z w64 (of_z w64 x) -ℤ to_z w64 (of_z w64 y))) ≡ p -ℤ q
@@ -68,9 +67,9 @@ coefficient_none_or_some (t ∷ ts) e = one_more t ts e (same_exponent t.exponen
 pub counted_term : (ts : Terms) (e : Monomial) → count ts e ≢ pos 0 → HasTerm ts e ⊎ HasTerm ts (turned e 256)
 counted_term ts e counted =
     ⊎_elim
-      (λ none. ⊎_elim (λ none_half. absurd (counted (neither none none_half))) (λ some. inr some) (coefficient_none_or_some ts (turned e 256)))
-      (λ some. inl some)
-      (coefficient_none_or_some ts e)
+    (λ none. ⊎_elim (λ none_half. absurd (counted (neither none none_half))) (λ some. inr some) (coefficient_none_or_some ts (turned e 256)))
+    (λ some. inl some)
+    (coefficient_none_or_some ts e)
   where
     neither : coefficient_at ts e ≡ pos 0 → coefficient_at ts (turned e 256) ≡ pos 0 → count ts e ≡ pos 0
     neither h k = omega (arith, ints)
@@ -86,27 +85,27 @@ minus_turned e u he hu = same_from_parts (turned (minus e (turned (minus e u) 25
 pub no_phase : (lead : Monomial) (x y : List (List Terms)) (other : Terms) → IsMonomial lead → ((u : Monomial) → IsMonomial u → IsMatrixShift u x y → count other (minus lead u) ≢ pos 0) → ((k : ℕ) → k < length other → FailsAt lead x y other k) → HasPhase x y → ⊥
 no_phase lead x y other proper counted fails phase =
     ⊎_elim
-      (λ some.
-        let same : minus lead some.term.exponent ≡ phase.0 = ap (minus lead) some.exponent ∙ minus_twice lead phase.0 proper phase.1 in
-        fails some.place some.within some.term some.there (inl (subst (λ (u : Monomial). IsMatrixShift u x y) (sym same) phase.2)))
-      (λ some.
-        let same : turned (minus lead some.term.exponent) 256 ≡ phase.0 = ap (λ (e : Monomial). turned (minus lead e) 256) some.exponent ∙ minus_turned lead phase.0 proper phase.1 in
-        fails some.place some.within some.term some.there (inr (subst (λ (u : Monomial). IsMatrixShift u x y) (sym same) phase.2)))
-      (counted_term other (minus lead phase.0) (counted phase.0 phase.1 phase.2))
+    (λ some.
+    let same : minus lead some.term.exponent ≡ phase.0 = ap (minus lead) some.exponent ∙ minus_twice lead phase.0 proper phase.1 in
+    fails some.place some.within some.term some.there (inl (subst (λ (u : Monomial). IsMatrixShift u x y) (sym same) phase.2)))
+    (λ some.
+    let same : turned (minus lead some.term.exponent) 256 ≡ phase.0 = ap (λ (e : Monomial). turned (minus lead e) 256) some.exponent ∙ minus_turned lead phase.0 proper phase.1 in
+    fails some.place some.within some.term some.there (inr (subst (λ (u : Monomial). IsMatrixShift u x y) (sym same) phase.2)))
+    (counted_term other (minus lead phase.0) (counted phase.0 phase.1 phase.2))
 
 -- a candidate that passes is a phase
 pub candidate_phase : (by : Monomial) (x y : List (List Terms)) → IsMonomial by → IsMatrixShift by x y ⊎ IsMatrixShift (turned by 256) x y → HasPhase x y
 candidate_phase by x y proper h = ⊎_elim (λ same. (by, proper, same)) (λ same. (turned by 256, omega arith, same)) h
 
--- the pivot's exponent is counted in the same entry of y
-pub pivot_counted : (x y : List (List Terms)) (j i : ℕ) (lead : Monomial) → IsPivot x (j, i, lead) → (u : Monomial) → IsMonomial u → IsMatrixShift u x y → count (row (column y j) i) (minus lead u) ≢ pos 0
-pivot_counted x y j i lead is u proper shift none = is.1.1.counted (shift j is.0 i is.1.0 lead is.1.1.proper ∙ none)
-
 -- two zero matrices are equal up to any phase
 pub zero_phase : (x y : List (List Terms)) → SameShape x y → IsZeroMatrix x → IsZeroMatrix y → HasPhase x y
-zero_phase x y shape zero_x zero_y = (zero_exponent, omega arith, λ j hj i hi e he.
-    ap (λ ts. count ts e) (zero_x j hj i hi) ∙
-    sym (ap (λ ts. count ts (minus e zero_exponent)) (zero_y j (subst (λ n. j < n) shape.columns hj) i (subst (λ n. i < n) (shape.rows j hj) hi))))
+zero_phase x y shape zero_x zero_y = (
+  zero_exponent,
+  omega arith,
+  λ j hj i hi e he.
+      ap (λ ts. count ts e) (zero_x j hj i hi) ∙
+      sym (ap (λ ts. count ts (minus e zero_exponent)) (zero_y j (subst (λ n. j < n) shape.columns hj) i (subst (λ n. i < n) (shape.rows j hj) hi))),
+)
 
 -- a matrix that is zero isn't a monomial times one that isn't
 pub zero_no_phase : (x y : List (List Terms)) → SameShape x y → IsZeroMatrix x → (found : ℕ × ℕ × Monomial) → IsPivot y found → HasPhase x y → ⊥

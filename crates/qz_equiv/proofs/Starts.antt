@@ -1,14 +1,14 @@
 -- Paths from any start: times the square root of two before all gates or after them is the same.
-use Rattle.std.proofs.Common.{◌≡◌, ℕ, zero, suc, ◌+◌, ◌-◌, ◌%◌, ◌<◌, ◌^◌, ◌==◌, Bool, true, false, cond, List, [], ◌∷◌, ◌++◌, map, sym, ap, ◌∙◌, refl, arith, rules, append_assoc}
-use Rattle.std.specs.Prelude.{ℤ, pos, negsuc, ◌+ℤ◌, ◌-ℤ◌, ◌*ℤ◌, neg_ℤ, if◌then◌else◌, fold}
-use Rattle.std.specs.List.{flat_map, AllByRecursion}
+use Rattle.std.proofs.Common.{◌≡◌, ℕ, zero, suc, ◌^◌, Bool, true, false, List, [], ◌∷◌, ◌++◌, sym, ap, ◌∙◌, refl, arith}
+use Rattle.std.specs.Prelude.{ℤ, pos, negsuc, ◌*ℤ◌, neg_ℤ, if◌then◌else◌}
+use Rattle.std.specs.List.{flat_map}
 use Rattle.std.proofs.lemmas.Int.{ints}
 use Rattle.std.proofs.lemmas.List.Concat.{flat_map-append}
 use Rattle.qz_circ.specs.declared.circuit.Op.{Op}
 use Rattle.qz_circ.specs.declared.circuit.Op.TheVariants.{H, X, Cx, Rz}
 use Rattle.qz_circ.specs.Circuit.{Circuit, below}
-use Rattle.qz_circ.specs.Exponent.{Exponent, IsExponent, zero_exponent, plus, minus, turned, same_exponent, turn_of, angle_exponent}
-use Rattle.qz_circ.specs.Paths.{Path, Ways, total, count, times, products, way_if, entry, through, stay, paths, root2_once, root2, has_bit, flipped, is_h, halves}
+use Rattle.qz_circ.specs.Exponent.{Exponent, plus, turned}
+use Rattle.qz_circ.specs.Paths.{Path, Ways, products, way_if, entry, through, stay, paths, root2_once, root2, halves}
 use Rattle.qz_circ.specs.Equivalence.{scaled}
 use Rattle.qz_equiv.proofs.Exponents.{exponent_eq}
 use Rattle.qz_equiv.specs.Entries.{sign_of, one_way, paths_from, scaled_stay}

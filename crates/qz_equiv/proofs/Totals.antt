@@ -1,13 +1,11 @@
 -- What ways count: ways end to end, ways times one way, and ways times the square root of two.
-use Rattle.std.proofs.Common.{◌≡◌, ℕ, zero, suc, ◌+◌, ◌-◌, ◌%◌, ◌<◌, Bool, true, false, cond, List, [], ◌∷◌, ◌++◌, map, sym, ap, ◌∙◌, refl, arith, rules}
-use Rattle.std.specs.Prelude.{ℤ, pos, negsuc, ◌+ℤ◌, ◌-ℤ◌, ◌*ℤ◌, neg_ℤ, if◌then◌else◌}
-use Rattle.std.specs.List.{flat_map, AllByRecursion}
+use Rattle.std.proofs.Common.{◌≡◌, ℕ, Bool, true, false, List, [], ◌∷◌, ◌++◌, map, sym, ap, ◌∙◌, refl, arith}
+use Rattle.std.specs.Prelude.{ℤ, pos, ◌+ℤ◌, ◌-ℤ◌, ◌*ℤ◌, neg_ℤ, if◌then◌else◌}
 use Rattle.std.proofs.lemmas.Int.{ints}
-use Rattle.std.proofs.lemmas.List.Concat.{flat_map-append}
-use Rattle.qz_circ.specs.Exponent.{Exponent, IsExponent, zero_exponent, plus, minus, turned, same_exponent, turn_of}
-use Rattle.qz_circ.specs.Paths.{Path, Ways, total, count, times, products, way_if, root2_once, root2}
+use Rattle.qz_circ.specs.Exponent.{Exponent, IsExponent, plus, minus, turned, same_exponent, turn_of}
+use Rattle.qz_circ.specs.Paths.{Path, total, count, times, products, root2_once}
 use Rattle.qz_equiv.specs.Entries.{AreProper, signed, sign_of, one_way}
-use Rattle.qz_equiv.proofs.Exponents.{same_like, plus_there, plus_back, minus_proper, turned_proper, turned-minus, exponent_eq, half_twice}
+use Rattle.qz_equiv.proofs.Exponents.{same_like, plus_there, plus_back, turned_proper, turned-minus, exponent_eq}
 
 pub AreProper-append : (ps rs : List Path) → AreProper ps → AreProper rs → AreProper (ps ++ rs)
 AreProper-append [] rs h k = k
@@ -103,7 +101,7 @@ part_turned s p k e hp he =
     let turn_proper : IsExponent (turn_of k) = omega arith in
     let same = plus-turn_of p k in
     ap (λ (t : Bool). if t then s else pos 0)
-      (same_like (turned p k) e p (minus e (turn_of k)) (λ h. plus_there p (turn_of k) e hp turn_proper he (same ∙ h)) (λ h. sym same ∙ plus_back p (turn_of k) e hp turn_proper he h))
+    (same_like (turned p k) e p (minus e (turn_of k)) (λ h. plus_there p (turn_of k) e hp turn_proper he (same ∙ h)) (λ h. sym same ∙ plus_back p (turn_of k) e hp turn_proper he h))
 
 -- the opposite of what one way adds
 part_negated : (s : ℤ) (t : Bool) → (if t then neg_ℤ s else pos 0) ≡ neg_ℤ (if t then s else pos 0)
@@ -132,13 +130,3 @@ count-root2_once ps e hp he =
     let left = ap (total ps) (turned-minus e (turn_of 64) 256) in
     let right = ap (total ps) (turned-minus e (turn_of 192) 256) in
     omega (arith, ints)
-
-pub AreProper-root2 : (t : ℕ) (ps : List Path) → AreProper ps → AreProper (root2 t ps)
-unfolding root2
-AreProper-root2 zero ps h = h
-AreProper-root2 (suc t) ps h = AreProper-root2_once (root2 t ps)
-
--- half a turn on, the count is the opposite
-pub count-turned : (ps : List Path) (e : Exponent) → IsExponent e → count ps (turned e 256) ≡ neg_ℤ (count ps e)
-unfolding count
-count-turned ps e he = let twice = ap (total ps) (half_twice e he) in omega (arith, ints)

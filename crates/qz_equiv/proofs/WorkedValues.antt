@@ -1,13 +1,13 @@
 -- Two pairs of circuits: one is equivalent by a phase that is a parameter, one is not equivalent.
-use Rattle.std.proofs.Common.{◌≡◌, ℕ, zero, suc, ◌+◌, ◌-◌, ◌%◌, ◌<◌, List, [], ◌∷◌, Bool, true, false, sym, ap, subst, ◌∙◌, refl, arith}
-use Rattle.std.specs.Prelude.{ℤ, pos, negsuc, ◌+ℤ◌, ◌-ℤ◌, if◌then◌else◌}
+use Rattle.std.proofs.Common.{◌≡◌, ℕ, zero, suc, ◌+◌, ◌-◌, ◌%◌, ◌<◌, [], ◌∷◌, Bool, true, false, ap, subst, refl, arith}
+use Rattle.std.specs.Prelude.{pos, ◌+ℤ◌, ◌-ℤ◌, if◌then◌else◌}
 use Rattle.std.proofs.lemmas.Int.{ints}
 use Rattle.qz_circ.specs.declared.circuit.Expr.TheVariants.{Const, Plus, Minus}
 use Rattle.qz_circ.specs.declared.circuit.Op.TheVariants.{X, Rz}
 use Rattle.qz_circ.specs.Circuit.{Circuit}
 use Rattle.qz_circ.specs.Exponent.{Exponent, IsExponent, zero_exponent, minus, param, same_exponent, turned, turn_of}
-use Rattle.qz_circ.specs.Paths.{Path, Ways, count, total, paths, through, entry, stay, root2}
-use Rattle.qz_circ.specs.Equivalence.{scaled, SameUpTo, Equivalent}
+use Rattle.qz_circ.specs.Paths.{count, total, paths, through, entry, stay, root2}
+use Rattle.qz_circ.specs.Equivalence.{scaled, Equivalent}
 use Rattle.qz_equiv.proofs.Exponents.{exponent_eq, Decides-same_exponent}
 use Rattle.qz_equiv.proofs.Totals.{count-times_one}
 

@@ -1,11 +1,11 @@
 -- Sums of monomials that have the counts of path sums: as entries, columns and matrices.
-use Rattle.std.specs.Prelude.{◌≡◌, ◌≢◌, ℕ, ◌+◌, ◌*◌, ◌^◌, ◌<◌, ◌≤◌, max, Bool, true, false, Option, Some, None, List, [], ◌∷◌, length, slice_index_or, fold, ℤ, pos, negsuc, neg_ℤ, ◌+ℤ◌}
+use Rattle.std.specs.Prelude.{◌≡◌, ℕ, ◌+◌, ◌*◌, ◌^◌, ◌<◌, ◌≤◌, max, Bool, true, false, Option, Some, None, List, [], ◌∷◌, length, slice_index_or, fold, ℤ, pos, negsuc, neg_ℤ, ◌+ℤ◌}
 use Rattle.std.specs.List.{flat_map, AllByRecursion}
 use Rattle.qz_circ.specs.declared.circuit.Op.{Op}
 use Rattle.qz_circ.specs.Circuit.{Circuit, below, ActsBelow, HasBelow}
 use Rattle.qz_circ.specs.Exponent.{Exponent, IsExponent}
 use Rattle.qz_circ.specs.Paths.{Path, Ways, count as path_count, products, entry, root2, stay, through}
-use Rattle.qz_ring.specs.Exponent.{Exponent as Monomial, IsExponent as IsMonomial, minus}
+use Rattle.qz_ring.specs.Exponent.{Exponent as Monomial, IsExponent as IsMonomial}
 use Rattle.qz_ring.specs.Terms.{Terms, count, weight_of, largest_reach}
 
 -- the monomial as an exponent of a path sum

@@ -51,7 +51,11 @@ fn way_through_h(t: u8, i: u64, k: u64) -> Option<(bool, u16)>
     ensures ways { entry (H t) i k ≡ ways_of result }
     ensures turn { IfSome result (λ way. way.1 < 512) }
 {
-    way_if(i == k || i == flipped(t, k), has_bit(t, i) && has_bit(t, k), 0)
+    way_if(
+        i == k || i == flipped(t, k),
+        has_bit(t, i) && has_bit(t, k),
+        0,
+    )
 }
 
 #[tactic(auto, unfolding(qz_circ::specs::Paths::entry))]

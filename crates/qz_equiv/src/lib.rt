@@ -49,7 +49,13 @@ fn same_circuits(alloc: Global, a: &[Op], c: &[Op], q: u64) -> Result<bool, qz_r
 }
 
 /// Whether two circuits without parameters are equivalent on q qubits. Counts one step, also where memory runs out.
-pub fn decide<L: Ledger>(alloc: Global, a: &[Op], c: &[Op], q: u64, steps: &mut Steps<L>) -> Result<bool, Memory>
+pub fn decide<L: Ledger>(
+    alloc: Global,
+    a: &[Op],
+    c: &[Op],
+    q: u64,
+    steps: &mut Steps<L>,
+) -> Result<bool, Memory>
     requires qubits { (1 ≤ q) × (q ≤ 3) }
     requires first { IsOn q 0 a.now }
     requires second { IsOn q 0 c.now }

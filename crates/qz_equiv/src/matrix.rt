@@ -67,7 +67,7 @@ fn add_turned(sum: &mut Elem, part: &Elem, negated: bool, turn: u16) -> Result<(
     }
 }
 
-// Adds the part after the way, if there is one.
+// Adds the part after the way, if there is one. A part that is zero adds nothing.
 fn add_way(sum: &mut Elem, part: &Elem, way: Option<(bool, u16)>) -> Result<(), Memory>
     requires turn { IfSome way (λ w. w.1 < 512) }
     requires weight { weight_of sum.old + weight_of part.now ≤ 2 ^ 120 }
@@ -76,6 +76,9 @@ fn add_way(sum: &mut Elem, part: &Elem, way: Option<(bool, u16)>) -> Result<(), 
 {
     match way {
         Some((negated, turn)) => {
+            if part.is_zero() {
+                return Ok(());
+            }
             add_turned(sum, part, negated, turn)?;
             Ok(())
         }

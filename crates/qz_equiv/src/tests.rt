@@ -31,6 +31,7 @@ fn decision(alloc: Global, a: &[Op], c: &[Op]) -> Result<bool, Memory>
 }
 
 const H: Op = Op::H(0);
+
 const X: Op = Op::X(0);
 
 // Circuits that are equal, or equal up to a phase.
@@ -40,8 +41,14 @@ fn equivalent_circuits_of_one_qubit(rt: HostRuntime) -> Result<(), Fail> {
     let alloc = rt.alloc();
     assert!(rt; decision(alloc, &[H, H], &[])?, "two H are none");
     assert!(rt; decision(alloc, &[X, X], &[])?, "two X are none");
-    assert!(rt; decision(alloc, &[H, X], &[half_turn, H])?, "X after H is half a turn before H");
-    assert!(rt; decision(alloc, &[X, half_turn, X], &[half_turn])?, "a phase of -1");
+    assert!(rt;
+        decision(alloc, &[H, X], &[half_turn, H])?,
+        "X after H is half a turn before H"
+    );
+    assert!(rt;
+        decision(alloc, &[X, half_turn, X], &[half_turn])?,
+        "a phase of -1"
+    );
     Ok(())
 }
 
@@ -51,7 +58,10 @@ fn different_circuits_of_one_qubit(rt: HostRuntime) -> Result<(), Fail> {
     let eighth = Op::Rz(0, Expr::Const(1));
     let quarter = Op::Rz(0, Expr::Const(2));
     let alloc = rt.alloc();
-    assert!(rt; !decision(alloc, &[eighth], &[quarter])?, "one and two eighths");
+    assert!(rt;
+        !decision(alloc, &[eighth], &[quarter])?,
+        "one and two eighths"
+    );
     assert!(rt; !decision(alloc, &[H], &[])?, "H and none");
     assert!(rt; !decision(alloc, &[X], &[eighth])?, "X and an eighth");
     Ok(())

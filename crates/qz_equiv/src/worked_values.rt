@@ -10,12 +10,10 @@ ghost use Rattle.qz_circ.specs.Equivalence.{Equivalent};
 #[tactic(auto, using(crate::proofs::WorkedValues::flip_equivalent))]
 pub fn flip_undoes_the_sign()
     ensures { Equivalent 1 (X 0 ∷ Rz 0 (Plus 0) ∷ []) (Rz 0 (Minus 0) ∷ X 0 ∷ []) }
-{
-}
+{}
 
 /// Rotations by one eighth and by two eighths of a full turn are not equivalent.
 #[tactic(auto, using(crate::proofs::WorkedValues::turns_different))]
 pub fn different_turns_differ()
     ensures { ¬ Equivalent 1 (Rz 0 (Const 1) ∷ []) (Rz 0 (Const 2) ∷ []) }
-{
-}
+{}

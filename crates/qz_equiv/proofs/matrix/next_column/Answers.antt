@@ -1,4 +1,4 @@
-use Rattle.std.proofs.Common.{◌^◌, ◌+◌, [], ℕ, List, arith}
+use Rattle.std.proofs.Common.{◌^◌, [], ℕ, arith}
 use Rattle.qz_ring.specs.Terms.{Terms}
 use Rattle.qz_equiv.specs.Entries.{IsGathered}
 use Rattle.qz_equiv.proofs.PushLemmas.{each_push}
@@ -8,4 +8,5 @@ pub loop-i-preserved : goal.loop-i-preserved
 loop-i-preserved c = record {
   filled = omega (arith, c.push_reserved.ensures.len);
   room = omega (arith, c.push_reserved.ensures.capacity);
-  gathered = each_push (λ (k : ℕ) (ts : Terms). IsGathered (2 ^ c.args.q) c.args.g k c.args.old.now (2 ^ c.args.q) ts) c.loop-i.entries.items _ _ [] c.loop-i.i c.loop-i.invariant.filled c.push_reserved.ensures.items c.in_ok-next_entry.ensures c.loop-i.invariant.gathered }
+  gathered = each_push (λ (k : ℕ) (ts : Terms). IsGathered (2 ^ c.args.q) c.args.g k c.args.old.now (2 ^ c.args.q) ts) c.loop-i.entries.items _ _ [] c.loop-i.i c.loop-i.invariant.filled c.push_reserved.ensures.items c.in_ok-next_entry.ensures c.loop-i.invariant.gathered;
+}

@@ -1,4 +1,4 @@
-use Rattle.std.proofs.Common.{◌^◌, ◌+◌, [], ℕ, List, arith}
+use Rattle.std.proofs.Common.{[], ℕ, arith}
 use Rattle.qz_ring.specs.Terms.{Terms}
 use Rattle.qz_equiv.specs.Entries.{IsEntry, scaled_stay}
 use Rattle.qz_equiv.proofs.PushLemmas.{each_push}
@@ -8,4 +8,5 @@ pub loop-i-preserved : goal.loop-i-preserved
 loop-i-preserved c = record {
   filled = omega (arith, c.push_reserved.ensures.len);
   room = omega (arith, c.push_reserved.ensures.capacity);
-  entries = each_push (λ (k : ℕ) (ts : Terms). IsEntry c.args.h (scaled_stay c.args.h k c.args.j) ts) c.loop-i.entries.items _ _ [] c.loop-i.i c.loop-i.invariant.filled c.push_reserved.ensures.items c.in_ok-start_entry.ensures c.loop-i.invariant.entries }
+  entries = each_push (λ (k : ℕ) (ts : Terms). IsEntry c.args.h (scaled_stay c.args.h k c.args.j) ts) c.loop-i.entries.items _ _ [] c.loop-i.i c.loop-i.invariant.filled c.push_reserved.ensures.items c.in_ok-start_entry.ensures c.loop-i.invariant.entries;
+}

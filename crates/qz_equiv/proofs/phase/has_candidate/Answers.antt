@@ -1,6 +1,5 @@
-use Rattle.std.proofs.Common.{◌≤◌, ◌<◌, ◌%◌, arith, sym, subst}
-use Rattle.qz_ring.specs.Exponent.{Exponent, IsExponent}
-use Rattle.qz_ring.specs.Terms.{largest_reach}
+use Rattle.std.proofs.Common.{arith, sym, subst}
+use Rattle.qz_ring.specs.Exponent.{IsExponent}
 use Rattle.qz_equiv.proofs.PhaseLemmas.{reach_at, candidate_phase, candidate_fails, found_phase, found_none, no_phase}
 use borrow.Author.Count.{below_more}
 use Rattle.qz_equiv.proofs.phase.has_candidate.Goals as goal

@@ -1,4 +1,3 @@
-use Rattle.std.proofs.Common.{subst, ◌≡◌}
 use Rattle.qz_equiv.proofs.PhaseLemmas.{second_way}
 use Rattle.qz_equiv.proofs.phase.same_either_way.Goals as goal
 
