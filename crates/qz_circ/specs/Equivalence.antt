@@ -6,8 +6,8 @@ use Rattle.qz_circ.specs.Exponent.{Exponent, IsExponent, minus}
 use Rattle.qz_circ.specs.Paths.{Ways, paths, count, root2, halves}
 
 -- the ways through the circuit, times √2 for each H of another one
-unfoldable pub scaled : ℕ → Circuit → Circuit → Ways
-scaled q c other i j = root2 (halves other) (paths q c i j)
+unfoldable pub scaled_ways : ℕ → Circuit → Circuit → Ways
+scaled_ways q c other i j = root2 (halves other) (paths q c i j)
 
 -- x is the monomial with exponent u times y: between every two states each exponent has the same count in x
 -- as the exponent less u has in y
@@ -17,4 +17,4 @@ pub record SameUpTo (q : ℕ) (u : Exponent) (x y : Ways) : Type 0 where
 
 -- some monomial takes the second circuit on q qubits to the first
 abbrev pub Equivalent : ℕ → Circuit → Circuit → Type 0
-Equivalent q a c = (u : Exponent) × SameUpTo q u (scaled q a c) (scaled q c a)
+Equivalent q a c = (u : Exponent) × SameUpTo q u (scaled_ways q a c) (scaled_ways q c a)

@@ -40,8 +40,8 @@ abbrev pub minus : Exponent → Exponent → Exponent
 minus d e = record { turn = (d.turn + (512 - e.turn)) % 512; x0 = d.x0 -ℤ e.x0; x1 = d.x1 -ℤ e.x1; x2 = d.x2 -ℤ e.x2 }
 
 -- the exponent with k more turns
-abbrev pub turned : Exponent → ℕ → Exponent
-turned e k = record e { turn = (e.turn + k) % 512 }
+abbrev pub with_turns : Exponent → ℕ → Exponent
+with_turns e k = record e { turn = (e.turn + k) % 512 }
 
 -- the same turn and the same powers
 abbrev pub same_exponent : Exponent → Exponent → Bool

@@ -5,7 +5,7 @@ use Rattle.std.specs.List.{flat_map}
 use Rattle.qz_circ.specs.declared.circuit.Op.{Op}
 use Rattle.qz_circ.specs.declared.circuit.Op.TheVariants.{H, X, Cx, Rz}
 use Rattle.qz_circ.specs.Circuit.{Circuit, below}
-use Rattle.qz_circ.specs.Exponent.{Exponent, zero_exponent, plus, turned, same_exponent, angle_exponent}
+use Rattle.qz_circ.specs.Exponent.{Exponent, zero_exponent, plus, with_turns, same_exponent, angle_exponent}
 
 -- one way from a state to a state: a sign, 1 or -1, and the exponent of a monomial
 pub record Path : Type 0 where
@@ -21,8 +21,8 @@ abbrev pub has_bit : ℕ → ℕ → Bool
 has_bit t state = (state / 2 ^ t) % 2 == 1
 
 -- the state with qubit t flipped
-abbrev pub flipped : ℕ → ℕ → ℕ
-flipped t state = bit_xor state (2 ^ t)
+abbrev pub flipped_state : ℕ → ℕ → ℕ
+flipped_state t state = bit_xor state (2 ^ t)
 
 -- the one way with this sign and exponent where the test holds, and else none
 abbrev pub way_if : Bool → ℤ → Exponent → List Path
@@ -31,11 +31,11 @@ way_if test s e = if test then record { sign = s; exponent = e } ∷ [] else []
 -- the ways through one gate, of which there is at most one between two states
 unfoldable pub entry : Op → Ways
 -- to the same state or the one with qubit t flipped; the sign is -1 where qubit t is 1 in both
-entry (H t) i k = way_if (i == k || i == flipped t k) (if has_bit t i && has_bit t k then negsuc 0 else pos 1) zero_exponent
+entry (H t) i k = way_if (i == k || i == flipped_state t k) (if has_bit t i && has_bit t k then negsuc 0 else pos 1) zero_exponent
 -- to the state with qubit t flipped
-entry (X t) i k = way_if (i == flipped t k) (pos 1) zero_exponent
+entry (X t) i k = way_if (i == flipped_state t k) (pos 1) zero_exponent
 -- to the state with qubit t flipped where qubit c is 1, and else to the same
-entry (Cx c t) i k = way_if (i == (if has_bit c k then flipped t k else k)) (pos 1) zero_exponent
+entry (Cx c t) i k = way_if (i == (if has_bit c k then flipped_state t k else k)) (pos 1) zero_exponent
 -- to the same state, with the angle's exponent where qubit t is 1
 entry (Rz t e) i k = way_if (i == k) (pos 1) (if has_bit t i then angle_exponent e else zero_exponent)
 
@@ -48,16 +48,16 @@ abbrev pub products : List Path → List Path → List Path
 products ps rs = flat_map (λ p. map (times p) rs) ps
 
 -- the first ways and then the second, over each state between
-unfoldable pub through : ℕ → Ways → Ways → Ways
-through q first second i j = flat_map (λ k. products (first k j) (second i k)) (below (2 ^ q))
+unfoldable pub ways_through : ℕ → Ways → Ways → Ways
+ways_through q first second i j = flat_map (λ k. products (first k j) (second i k)) (below (2 ^ q))
 
 -- through no gate: from each state to itself
-unfoldable pub stay : Ways
-stay i j = way_if (i == j) (pos 1) zero_exponent
+unfoldable pub identity_ways : Ways
+identity_ways i j = way_if (i == j) (pos 1) zero_exponent
 
 -- the ways through the gates of a circuit on q qubits, from left to right
 unfoldable pub paths : ℕ → Circuit → Ways
-paths q c = fold (λ ways g. through q ways (entry g)) stay c
+paths q c = fold (λ ways g. ways_through q ways (entry g)) identity_ways c
 
 -- the signs of the ways with this exponent, added up
 unfoldable pub total : List Path → Exponent → ℤ
@@ -66,11 +66,11 @@ total (p ∷ ps) e = (if same_exponent p.exponent e then p.sign else pos 0) +ℤ
 
 -- how often the ways count the exponent: the ways with it, less those with 256 turns more, since ζ^256 is -1
 unfoldable pub count : List Path → Exponent → ℤ
-count ps e = total ps e -ℤ total ps (turned e 256)
+count ps e = total ps e -ℤ total ps (with_turns e 256)
 
 -- times the square root of two, once: it is ω - ω^3, with ω = ζ^64
 unfoldable pub root2_once : List Path → List Path
-root2_once ps = flat_map (λ p. record { sign = p.sign; exponent = turned p.exponent 64 } ∷ record { sign = neg_ℤ p.sign; exponent = turned p.exponent 192 } ∷ []) ps
+root2_once ps = flat_map (λ p. record { sign = p.sign; exponent = with_turns p.exponent 64 } ∷ record { sign = neg_ℤ p.sign; exponent = with_turns p.exponent 192 } ∷ []) ps
 
 -- times the square root of two, as often as the number says
 unfoldable pub root2 : ℕ → List Path → List Path

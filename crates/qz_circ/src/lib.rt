@@ -9,8 +9,6 @@ pub mod fault;
 pub mod laws;
 pub mod ranks;
 pub mod step_count;
-#[cfg(test)]
-mod tests;
 pub mod worked_values;
 
 pub use bound::Bounds;

@@ -9,8 +9,8 @@ use Rattle.std.proofs.Math.Nat.{pow-suc, pow-le-pow_right}
 use Rattle.qz_circ.specs.declared.circuit.Op.{Op}
 use Rattle.qz_circ.specs.Circuit.{Circuit, IsOn}
 use Rattle.qz_circ.specs.Exponent.{zero_exponent, same_exponent}
-use Rattle.qz_circ.specs.Paths.{Path, Ways, count as path_count, total, entry, through, stay, way_if, root2, root2_once}
-use Rattle.qz_ring.specs.Exponent.{Exponent as Monomial, minus, turned, zero_exponent as no_monomial, same_exponent as same_monomial, turn_alone}
+use Rattle.qz_circ.specs.Paths.{Path, Ways, count as path_count, total, entry, ways_through, identity_ways, way_if, root2, root2_once}
+use Rattle.qz_ring.specs.Exponent.{Exponent as Monomial, minus, with_turns, zero_exponent as no_monomial, same_exponent as same_monomial, turn_alone}
 use Rattle.qz_ring.specs.Terms.{Terms, weight_of, largest_reach}
 use Rattle.qz_ring.specs.Shifting.{IsTimesRoot2}
 use Rattle.qz_equiv.specs.Entries.{exponent_of, one_way, IsEntry, row, IsColumn, IsLight, gathered, IsNextColumn, IsPlain, scaled_stay, scaled_paths}
@@ -39,8 +39,8 @@ next_column q n g ways old new small plain before next = record {
 
 -- one more gate of a circuit
 more_paths : (q h : ℕ) (c : Circuit) (k : ℕ) (d : Op) (j i : ℕ) → k < length c → scaled_paths q h (take (k + 1) c) j i ≡ gathered (2 ^ q) (get_or c k d) i (scaled_paths q h (take k c) j)
-unfolding through
-more_paths q h c k d j i less = ap (λ (w : Ways). w i j) (fold_more (λ (w : Ways) g. through q w (entry g)) (scaled_stay h) c k d less)
+unfolding ways_through
+more_paths q h c k d j i less = ap (λ (w : Ways). w i j) (fold_more (λ (w : Ways) g. ways_through q w (entry g)) (scaled_stay h) c k d less)
 
 pub column_step : (q h : ℕ) (c : Circuit) (k : ℕ) (d : Op) (j : ℕ) (old new : List Terms) → q ≤ 3 → IsOn q 0 c → k < length c → IsColumn (2 ^ q) (k + h) (scaled_paths q h (take k c) j) old → IsNextColumn (2 ^ q) (get_or c k d) old new → IsColumn (2 ^ q) (k + 1 + h) (scaled_paths q h (take (k + 1) c) j) new
 column_step q h c k d j old new small on less before next =
@@ -67,7 +67,7 @@ entry_one = record {
   proper = (omega arith, tt);
   counts = λ e he.
       let here = same_agree no_monomial e in
-      let half = same_agree no_monomial (turned e 256) in
+      let half = same_agree no_monomial (with_turns e 256) in
       (λ t. ((if here t then pos 1 else pos 0) +ℤ pos 0) -ℤ ((if half t then pos 1 else pos 0) +ℤ pos 0));
   weight = omega arith;
   reach = omega arith;
@@ -106,13 +106,13 @@ root2-none (suc h) = ap root2_once (root2-none h)
 
 -- the start of a column
 pub start_same : (h i j : ℕ) (ts : Terms) → i ≡ j → IsEntry h (root2 h (one_way false zero_exponent)) ts → IsEntry h (scaled_stay h i j) ts
-unfolding stay
+unfolding identity_ways
 start_same h i j ts same is =
     let test : (i == j) ≡ true = grind (arith, nat_tests) in
     subst (λ (b : Bool). IsEntry h (root2 h (way_if b (pos 1) zero_exponent)) ts) (sym test) is
 
 pub start_other : (h i j : ℕ) → i ≢ j → IsEntry h (scaled_stay h i j) []
-unfolding stay
+unfolding identity_ways
 start_other h i j apart =
     let test : (i == j) ≡ false = grind (arith, nat_tests) in
     subst (λ (b : Bool). IsEntry h (root2 h (way_if b (pos 1) zero_exponent)) []) (sym test)

@@ -4,17 +4,17 @@ use Rattle.std.specs.Prelude.{IsTrue, ◌↔◌}
 use Rattle.qz_circ.specs.Circuit.{Circuit}
 use Rattle.qz_circ.specs.Exponent.{Exponent}
 use Rattle.qz_circ.specs.Paths.{Ways, halves}
-use Rattle.qz_circ.specs.Equivalence.{scaled, SameUpTo, Equivalent}
+use Rattle.qz_circ.specs.Equivalence.{scaled_ways, SameUpTo, Equivalent}
 use Rattle.qz_ring.specs.Exponent.{Exponent as Monomial, IsExponent as IsMonomial, minus}
 use Rattle.qz_ring.specs.Terms.{Terms}
 use Rattle.qz_equiv.specs.Entries.{exponent_of, monomial_of, row, column, IsEntry, IsMatrix, paths_from, scaled_stay}
 use Rattle.qz_equiv.specs.Phases.{IsMatrixShift, HasPhase}
-use Rattle.qz_equiv.proofs.Starts.{scaled-from}
+use Rattle.qz_equiv.proofs.Starts.{scaled_ways-from}
 
 -- the matrix of a circuit has the scaled ways of it and another one
-pub scaled_matrix : (q n : ℕ) (c other : Circuit) (h : ℕ) (m : List (List Terms)) → h ≡ halves other → IsMatrix (2 ^ q) n (paths_from q (scaled_stay h) c) m → IsMatrix (2 ^ q) n (scaled q c other) m
+pub scaled_matrix : (q n : ℕ) (c other : Circuit) (h : ℕ) (m : List (List Terms)) → h ≡ halves other → IsMatrix (2 ^ q) n (paths_from q (scaled_stay h) c) m → IsMatrix (2 ^ q) n (scaled_ways q c other) m
 scaled_matrix q n c other h m is matrix =
-    let ways : paths_from q (scaled_stay h) c ≡ scaled q c other = (λ t i j. sym (scaled-from q c other i j ∙ ap (λ k. paths_from q (scaled_stay k) c i j) (sym is)) t) in
+    let ways : paths_from q (scaled_stay h) c ≡ scaled_ways q c other = (λ t i j. sym (scaled_ways-from q c other i j ∙ ap (λ k. paths_from q (scaled_stay k) c i j) (sym is)) t) in
     subst (λ (w : Ways). IsMatrix (2 ^ q) n w m) ways matrix
 
 -- the entry in a row and a column
@@ -42,8 +42,8 @@ same_entries q n k a c x y first second u same j hj i hi e he =
     here ∙ same.counts i j (exponent_of e) i_in j_in he ∙ sym there
 
 -- the answer on matrices is the answer on circuits
-pub decided : (q n k : ℕ) (a c : Circuit) (x y : List (List Terms)) (same : Bool) → IsMatrix (2 ^ q) n (scaled q a c) x → IsMatrix (2 ^ q) k (scaled q c a) y → (IsTrue same ↔ HasPhase x y) → (IsTrue same ↔ Equivalent q a c)
+pub decided : (q n k : ℕ) (a c : Circuit) (x y : List (List Terms)) (same : Bool) → IsMatrix (2 ^ q) n (scaled_ways q a c) x → IsMatrix (2 ^ q) k (scaled_ways q c a) y → (IsTrue same ↔ HasPhase x y) → (IsTrue same ↔ Equivalent q a c)
 decided q n k a c x y same first second told = (
-  λ h. let phase = told.0 h in (exponent_of phase.0, same_ways q n k (scaled q a c) (scaled q c a) x y first second phase.0 phase.1 phase.2),
-  λ h. told.1 (monomial_of h.0, h.1.phase, same_entries q n k (scaled q a c) (scaled q c a) x y first second h.0 h.1),
+  λ h. let phase = told.0 h in (exponent_of phase.0, same_ways q n k (scaled_ways q a c) (scaled_ways q c a) x y first second phase.0 phase.1 phase.2),
+  λ h. told.1 (monomial_of h.0, h.1.phase, same_entries q n k (scaled_ways q a c) (scaled_ways q c a) x y first second h.0 h.1),
 )

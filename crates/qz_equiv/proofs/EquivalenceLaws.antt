@@ -3,7 +3,7 @@ use Rattle.std.proofs.Common.{ℕ, sym, ap, ◌∙◌, arith}
 use Rattle.qz_circ.specs.Circuit.{Circuit}
 use Rattle.qz_circ.specs.Exponent.{Exponent, zero_exponent, minus}
 use Rattle.qz_circ.specs.Paths.{Ways, count}
-use Rattle.qz_circ.specs.Equivalence.{scaled, SameUpTo, Equivalent}
+use Rattle.qz_circ.specs.Equivalence.{scaled_ways, SameUpTo, Equivalent}
 use Rattle.qz_equiv.proofs.Exponents.{minus-zero, minus_undone, minus_proper}
 
 -- ways are the same up to 1 as themselves
@@ -15,7 +15,7 @@ same_up_to_one q x = record {
 
 -- a circuit is equivalent to itself
 pub reflexive : (q : ℕ) (a : Circuit) → Equivalent q a a
-reflexive q a = (zero_exponent, same_up_to_one q (scaled q a a))
+reflexive q a = (zero_exponent, same_up_to_one q (scaled_ways q a a))
 
 -- the phase is undone by its inverse
 same_up_to_inverse : (q : ℕ) (u : Exponent) (x y : Ways) → SameUpTo q u x y → SameUpTo q (minus zero_exponent u) y x
@@ -28,4 +28,4 @@ same_up_to_inverse q u x y h = record {
 
 -- equivalence goes both ways
 pub symmetric : (q : ℕ) (a b : Circuit) → Equivalent q a b → Equivalent q b a
-symmetric q a b h = (minus zero_exponent h.0, same_up_to_inverse q h.0 (scaled q a b) (scaled q b a) h.1)
+symmetric q a b h = (minus zero_exponent h.0, same_up_to_inverse q h.0 (scaled_ways q a b) (scaled_ways q b a) h.1)

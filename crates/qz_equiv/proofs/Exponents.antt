@@ -5,7 +5,7 @@ use Rattle.std.specs.Ordering.{int_eq}
 use Rattle.std.specs.Bool.{Decides}
 use Rattle.std.proofs.lemmas.Int.{ints}
 use Rattle.std.proofs.lemmas.Bool.Decides.{Decides-eqb, Decides-int_eq, Decides-and, same_from_decides, Decides-like}
-use Rattle.qz_circ.specs.Exponent.{Exponent, IsExponent, zero_exponent, plus, minus, turned, same_exponent}
+use Rattle.qz_circ.specs.Exponent.{Exponent, IsExponent, zero_exponent, plus, minus, with_turns, same_exponent}
 
 -- exponents with the same parts are the same
 pub exponent_eq : (d e : Exponent) → d.turn ≡ e.turn → d.x0 ≡ e.x0 → d.x1 ≡ e.x1 → d.x2 ≡ e.x2 → d ≡ e
@@ -50,7 +50,7 @@ plus_back p r e hp hr he h = exponent_eq (plus p r) e (turn_back p.turn r.turn e
 pub minus_proper : (d e : Exponent) → IsExponent (minus d e)
 minus_proper d e = omega arith
 
-pub turned_proper : (e : Exponent) (k : ℕ) → IsExponent (turned e k)
+pub turned_proper : (e : Exponent) (k : ℕ) → IsExponent (with_turns e k)
 turned_proper e k = omega arith
 
 -- an exponent less one is one
@@ -58,12 +58,12 @@ pub minus-zero : (e : Exponent) → IsExponent e → minus e zero_exponent ≡ e
 minus-zero e h = exponent_eq (minus e zero_exponent) e (omega arith) (omega (arith, ints)) (omega (arith, ints)) (omega (arith, ints))
 
 -- a turned difference is the difference of the turned one
-pub turned-minus : (e r : Exponent) (k : ℕ) → minus (turned e k) r ≡ turned (minus e r) k
-turned-minus e r k = exponent_eq (minus (turned e k) r) (turned (minus e r) k) (omega arith) refl refl refl
+pub with_turns-minus : (e r : Exponent) (k : ℕ) → minus (with_turns e k) r ≡ with_turns (minus e r) k
+with_turns-minus e r k = exponent_eq (minus (with_turns e k) r) (with_turns (minus e r) k) (omega arith) refl refl refl
 
 -- two half turns are none
-pub half_twice : (e : Exponent) → IsExponent e → turned (turned e 256) 256 ≡ e
-half_twice e h = exponent_eq (turned (turned e 256) 256) e (omega arith) refl refl refl
+pub half_twice : (e : Exponent) → IsExponent e → with_turns (with_turns e 256) 256 ≡ e
+half_twice e h = exponent_eq (with_turns (with_turns e 256) 256) e (omega arith) refl refl refl
 
 -- to take away the inverse and then the exponent itself changes nothing
 pub minus_undone : (e u : Exponent) → IsExponent e → IsExponent u → minus (minus e (minus zero_exponent u)) u ≡ e

@@ -3,7 +3,7 @@ use Rattle.std.proofs.Common.{◌≡◌, ◌≢◌, ℕ, zero, suc, ◌<◌, ◌
 use Rattle.std.specs.Prelude.{unsigned_abs, slice_get, IsTrue, ◌↔◌, is_some, MatchOption}
 use Rattle.std.specs.Int.{w64}
 use Rattle.std.proofs.lemmas.Int.{ints, to_z-of_z, fits_signed_from_abs}
-use Rattle.qz_ring.specs.Exponent.{Exponent as Monomial, IsExponent as IsMonomial, minus, plus, turned, zero_exponent, reach_of, same_exponent}
+use Rattle.qz_ring.specs.Exponent.{Exponent as Monomial, IsExponent as IsMonomial, minus, plus, with_turns, zero_exponent, reach_of, same_exponent}
 use Rattle.qz_ring.specs.Terms.{Term, Terms, count, coefficient_at, largest_reach}
 use Rattle.qz_ring.proofs.Numbers.{unsigned_abs-add, unsigned_abs-neg}
 use Rattle.qz_ring.proofs.Order.{same_from_parts, same_exponent-decides}
@@ -64,22 +64,22 @@ coefficient_none_or_some [] e = inl refl
 coefficient_none_or_some (t ∷ ts) e = one_more t ts e (same_exponent t.exponent e) refl (coefficient_none_or_some ts e)
 
 -- a count that isn't 0 is that of a term with the exponent or with half a turn more
-pub counted_term : (ts : Terms) (e : Monomial) → count ts e ≢ pos 0 → HasTerm ts e ⊎ HasTerm ts (turned e 256)
+pub counted_term : (ts : Terms) (e : Monomial) → count ts e ≢ pos 0 → HasTerm ts e ⊎ HasTerm ts (with_turns e 256)
 counted_term ts e counted =
     ⊎_elim
-    (λ none. ⊎_elim (λ none_half. absurd (counted (neither none none_half))) (λ some. inr some) (coefficient_none_or_some ts (turned e 256)))
+    (λ none. ⊎_elim (λ none_half. absurd (counted (neither none none_half))) (λ some. inr some) (coefficient_none_or_some ts (with_turns e 256)))
     (λ some. inl some)
     (coefficient_none_or_some ts e)
   where
-    neither : coefficient_at ts e ≡ pos 0 → coefficient_at ts (turned e 256) ≡ pos 0 → count ts e ≡ pos 0
+    neither : coefficient_at ts e ≡ pos 0 → coefficient_at ts (with_turns e 256) ≡ pos 0 → count ts e ≡ pos 0
     neither h k = omega (arith, ints)
 
 -- the quotient by the quotient is the divisor
 minus_twice : (e u : Monomial) → IsMonomial e → IsMonomial u → minus e (minus e u) ≡ u
 minus_twice e u he hu = same_from_parts (minus e (minus e u)) u (omega arith) (omega (arith, ints)) (omega (arith, ints)) (omega (arith, ints))
 
-minus_turned : (e u : Monomial) → IsMonomial e → IsMonomial u → turned (minus e (turned (minus e u) 256)) 256 ≡ u
-minus_turned e u he hu = same_from_parts (turned (minus e (turned (minus e u) 256)) 256) u (omega arith) (omega (arith, ints)) (omega (arith, ints)) (omega (arith, ints))
+minus_turned : (e u : Monomial) → IsMonomial e → IsMonomial u → with_turns (minus e (with_turns (minus e u) 256)) 256 ≡ u
+minus_turned e u he hu = same_from_parts (with_turns (minus e (with_turns (minus e u) 256)) 256) u (omega arith) (omega (arith, ints)) (omega (arith, ints)) (omega (arith, ints))
 
 -- where every candidate fails, no monomial takes y to x
 pub no_phase : (lead : Monomial) (x y : List (List Terms)) (other : Terms) → IsMonomial lead → ((u : Monomial) → IsMonomial u → IsMatrixShift u x y → count other (minus lead u) ≢ pos 0) → ((k : ℕ) → k < length other → FailsAt lead x y other k) → HasPhase x y → ⊥
@@ -89,13 +89,13 @@ no_phase lead x y other proper counted fails phase =
     let same : minus lead some.term.exponent ≡ phase.0 = ap (minus lead) some.exponent ∙ minus_twice lead phase.0 proper phase.1 in
     fails some.place some.within some.term some.there (inl (subst (λ (u : Monomial). IsMatrixShift u x y) (sym same) phase.2)))
     (λ some.
-    let same : turned (minus lead some.term.exponent) 256 ≡ phase.0 = ap (λ (e : Monomial). turned (minus lead e) 256) some.exponent ∙ minus_turned lead phase.0 proper phase.1 in
+    let same : with_turns (minus lead some.term.exponent) 256 ≡ phase.0 = ap (λ (e : Monomial). with_turns (minus lead e) 256) some.exponent ∙ minus_turned lead phase.0 proper phase.1 in
     fails some.place some.within some.term some.there (inr (subst (λ (u : Monomial). IsMatrixShift u x y) (sym same) phase.2)))
     (counted_term other (minus lead phase.0) (counted phase.0 phase.1 phase.2))
 
 -- a candidate that passes is a phase
-pub candidate_phase : (by : Monomial) (x y : List (List Terms)) → IsMonomial by → IsMatrixShift by x y ⊎ IsMatrixShift (turned by 256) x y → HasPhase x y
-candidate_phase by x y proper h = ⊎_elim (λ same. (by, proper, same)) (λ same. (turned by 256, omega arith, same)) h
+pub candidate_phase : (by : Monomial) (x y : List (List Terms)) → IsMonomial by → IsMatrixShift by x y ⊎ IsMatrixShift (with_turns by 256) x y → HasPhase x y
+candidate_phase by x y proper h = ⊎_elim (λ same. (by, proper, same)) (λ same. (with_turns by 256, omega arith, same)) h
 
 -- two zero matrices are equal up to any phase
 pub zero_phase : (x y : List (List Terms)) → SameShape x y → IsZeroMatrix x → IsZeroMatrix y → HasPhase x y
@@ -130,11 +130,11 @@ zero_case x y shape zero_x (Some found) false is pivot = (λ h. absurd (clash h)
     clash h = cc
 
 -- where both candidates of a term fail
-pub candidate_fails : (lead by : Monomial) (x y : List (List Terms)) (other : Terms) (k : ℕ) (t : Term) (same : Bool) → by ≡ minus lead t.exponent → slice_get other k ≡ Some t → same ≡ false → (IsTrue same ↔ (IsMatrixShift by x y ⊎ IsMatrixShift (turned by 256) x y)) → FailsAt lead x y other k
+pub candidate_fails : (lead by : Monomial) (x y : List (List Terms)) (other : Terms) (k : ℕ) (t : Term) (same : Bool) → by ≡ minus lead t.exponent → slice_get other k ≡ Some t → same ≡ false → (IsTrue same ↔ (IsMatrixShift by x y ⊎ IsMatrixShift (with_turns by 256) x y)) → FailsAt lead x y other k
 candidate_fails lead by x y other k t same by_is there fails told u also h =
     let same_term : t ≡ u = cc in
     let candidate : by ≡ minus lead u.exponent = by_is ∙ ap (λ (t : Term). minus lead t.exponent) same_term in
-    clash same fails (told.1 (subst (λ (v : Monomial). IsMatrixShift v x y ⊎ IsMatrixShift (turned v 256) x y) (sym candidate) h))
+    clash same fails (told.1 (subst (λ (v : Monomial). IsMatrixShift v x y ⊎ IsMatrixShift (with_turns v 256) x y) (sym candidate) h))
   where
     clash : (b : Bool) → b ≡ false → b ≡ true → ⊥
     clash b h k = cc

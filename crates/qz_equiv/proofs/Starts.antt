@@ -7,9 +7,9 @@ use Rattle.std.proofs.lemmas.List.Concat.{flat_map-append}
 use Rattle.qz_circ.specs.declared.circuit.Op.{Op}
 use Rattle.qz_circ.specs.declared.circuit.Op.TheVariants.{H, X, Cx, Rz}
 use Rattle.qz_circ.specs.Circuit.{Circuit, below}
-use Rattle.qz_circ.specs.Exponent.{Exponent, plus, turned}
-use Rattle.qz_circ.specs.Paths.{Path, Ways, products, way_if, entry, through, stay, paths, root2_once, root2, halves}
-use Rattle.qz_circ.specs.Equivalence.{scaled}
+use Rattle.qz_circ.specs.Exponent.{Exponent, plus, with_turns}
+use Rattle.qz_circ.specs.Paths.{Path, Ways, products, way_if, entry, ways_through, identity_ways, paths, root2_once, root2, halves}
+use Rattle.qz_circ.specs.Equivalence.{scaled_ways}
 use Rattle.qz_equiv.proofs.Exponents.{exponent_eq}
 use Rattle.qz_equiv.specs.Entries.{sign_of, one_way, paths_from, scaled_stay}
 
@@ -49,8 +49,8 @@ products-none [] = refl
 products-none (p ∷ ps) = products-none ps
 
 -- a path that is turned and then multiplied
-turn_first : (p : Exponent) (k : ℕ) (x : Exponent) → turned (plus p x) k ≡ plus (turned p k) x
-turn_first p k x = exponent_eq (turned (plus p x) k) (plus (turned p k) x) (omega arith) refl refl refl
+turn_first : (p : Exponent) (k : ℕ) (x : Exponent) → with_turns (plus p x) k ≡ plus (with_turns p k) x
+turn_first p k x = exponent_eq (with_turns (plus p x) k) (plus (with_turns p k) x) (omega arith) refl refl refl
 
 negate_first : (b : Bool) (z : ℤ) → neg_ℤ (z *ℤ sign_of b) ≡ neg_ℤ z *ℤ sign_of b
 negate_first true z = omega (arith, ints)
@@ -77,7 +77,7 @@ root2_once-products ps rs (one b x h) = ap (λ rs. root2_once (products ps rs)) 
 
 -- what one path becomes, times the square root of two
 abbrev two_turns : Path → List Path
-two_turns p = record { sign = p.sign; exponent = turned p.exponent 64 } ∷ record { sign = neg_ℤ p.sign; exponent = turned p.exponent 192 } ∷ []
+two_turns p = record { sign = p.sign; exponent = with_turns p.exponent 64 } ∷ record { sign = neg_ℤ p.sign; exponent = with_turns p.exponent 192 } ∷ []
 
 -- times the square root of two, piece by piece
 spread : (f : ℕ → List Path) (ks : List ℕ) → root2_once (flat_map f ks) ≡ flat_map (λ k. root2_once (f k)) ks
@@ -90,15 +90,15 @@ root2_once-pieces w g i j ks =
     spread (λ k. products (w k j) (entry g i k)) ks ∙
     flat_map_same (λ k. root2_once (products (w k j) (entry g i k))) (λ k. products (root2_once (w k j)) (entry g i k)) (λ k. root2_once-products (w k j) (entry g i k) (through_entry g i k)) ks
 
-root2_once-through : (q : ℕ) (w : Ways) (g : Op) (i j : ℕ) → root2_once (through q w (entry g) i j) ≡ through q (λ i j. root2_once (w i j)) (entry g) i j
-unfolding through
-root2_once-through q w g i j = root2_once-pieces w g i j (below (2 ^ q))
+root2_once-ways_through : (q : ℕ) (w : Ways) (g : Op) (i j : ℕ) → root2_once (ways_through q w (entry g) i j) ≡ ways_through q (λ i j. root2_once (w i j)) (entry g) i j
+unfolding ways_through
+root2_once-ways_through q w g i j = root2_once-pieces w g i j (below (2 ^ q))
 
 root2_once-paths_from : (q : ℕ) (w : Ways) (c : Circuit) (i j : ℕ) → root2_once (paths_from q w c i j) ≡ paths_from q (λ i j. root2_once (w i j)) c i j
 root2_once-paths_from q w [] i j = refl
 root2_once-paths_from q w (g ∷ c) i j =
-    root2_once-paths_from q (through q w (entry g)) c i j ∙
-    ap (λ (start : Ways). paths_from q start c i j) (λ t k l. root2_once-through q w g k l t)
+    root2_once-paths_from q (ways_through q w (entry g)) c i j ∙
+    ap (λ (start : Ways). paths_from q start c i j) (λ t k l. root2_once-ways_through q w g k l t)
 
 -- times the square root of two before all gates or after them
 pub root2-paths_from : (h q : ℕ) (w : Ways) (c : Circuit) (i j : ℕ) → root2 h (paths_from q w c i j) ≡ paths_from q (λ i j. root2 h (w i j)) c i j
@@ -107,6 +107,6 @@ root2-paths_from zero q w c i j = refl
 root2-paths_from (suc h) q w c i j = ap root2_once (root2-paths_from h q w c i j) ∙ root2_once-paths_from q (λ i j. root2 h (w i j)) c i j
 
 -- the scaled ways are those from a scaled start
-pub scaled-from : (q : ℕ) (c other : Circuit) (i j : ℕ) → scaled q c other i j ≡ paths_from q (scaled_stay (halves other)) c i j
-unfolding scaled paths
-scaled-from q c other i j = root2-paths_from (halves other) q stay c i j
+pub scaled_ways-from : (q : ℕ) (c other : Circuit) (i j : ℕ) → scaled_ways q c other i j ≡ paths_from q (scaled_stay (halves other)) c i j
+unfolding scaled_ways paths
+scaled_ways-from q c other i j = root2-paths_from (halves other) q identity_ways c i j

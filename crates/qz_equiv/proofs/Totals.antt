@@ -2,10 +2,10 @@
 use Rattle.std.proofs.Common.{◌≡◌, ℕ, Bool, true, false, List, [], ◌∷◌, ◌++◌, map, sym, ap, ◌∙◌, refl, arith}
 use Rattle.std.specs.Prelude.{ℤ, pos, ◌+ℤ◌, ◌-ℤ◌, ◌*ℤ◌, neg_ℤ, if◌then◌else◌}
 use Rattle.std.proofs.lemmas.Int.{ints}
-use Rattle.qz_circ.specs.Exponent.{Exponent, IsExponent, plus, minus, turned, same_exponent, turn_of}
+use Rattle.qz_circ.specs.Exponent.{Exponent, IsExponent, plus, minus, with_turns, same_exponent, turn_of}
 use Rattle.qz_circ.specs.Paths.{Path, total, count, times, products, root2_once}
 use Rattle.qz_equiv.specs.Entries.{AreProper, signed, sign_of, one_way}
-use Rattle.qz_equiv.proofs.Exponents.{same_like, plus_there, plus_back, turned_proper, turned-minus, exponent_eq}
+use Rattle.qz_equiv.proofs.Exponents.{same_like, plus_there, plus_back, turned_proper, with_turns-minus, exponent_eq}
 
 pub AreProper-append : (ps rs : List Path) → AreProper ps → AreProper rs → AreProper (ps ++ rs)
 AreProper-append [] rs h k = k
@@ -36,7 +36,7 @@ count-none e = refl
 
 pub count-append : (ps rs : List Path) (e : Exponent) → count (ps ++ rs) e ≡ count ps e +ℤ count rs e
 unfolding count
-count-append ps rs e = let here = total-append ps rs e in let half = total-append ps rs (turned e 256) in omega (arith, ints)
+count-append ps rs e = let here = total-append ps rs e in let half = total-append ps rs (with_turns e 256) in omega (arith, ints)
 
 -- the exponents of products are proper
 pub AreProper-products : (ps rs : List Path) → AreProper (products ps rs)
@@ -78,12 +78,12 @@ pub count-times_one : (b : Bool) (x : Exponent) (ps : List Path) (e : Exponent) 
 unfolding count
 count-times_one b x ps e hp hx he =
     let here = total-times_one b x ps e hp hx he in
-    let half = total-times_one b x ps (turned e 256) hp hx (turned_proper e 256) ∙ ap (λ y. signed b (total ps y)) (turned-minus e x 256) in
-    (λ i. here i -ℤ half i) ∙ sym (signed-sub b (total ps (minus e x)) (total ps (turned (minus e x) 256)))
+    let half = total-times_one b x ps (with_turns e 256) hp hx (turned_proper e 256) ∙ ap (λ y. signed b (total ps y)) (with_turns-minus e x 256) in
+    (λ i. here i -ℤ half i) ∙ sym (signed-sub b (total ps (minus e x)) (total ps (with_turns (minus e x) 256)))
 
 pub count-times_none : (ps : List Path) (e : Exponent) → count (products ps []) e ≡ pos 0
 unfolding count
-count-times_none ps e = let here = total-times_none ps e in let half = total-times_none ps (turned e 256) in omega (arith, ints)
+count-times_none ps e = let here = total-times_none ps e in let half = total-times_none ps (with_turns e 256) in omega (arith, ints)
 
 -- ways times the square root of two are proper
 pub AreProper-root2_once : (ps : List Path) → AreProper (root2_once ps)
@@ -92,16 +92,16 @@ AreProper-root2_once [] = tt
 AreProper-root2_once (p ∷ ps) = (omega arith, (omega arith, AreProper-root2_once ps))
 
 -- to turn on is to multiply by a turn alone
-plus-turn_of : (p : Exponent) (k : ℕ) → plus p (turn_of k) ≡ turned p k
-plus-turn_of p k = exponent_eq (plus p (turn_of k)) (turned p k) (omega arith) (omega (arith, ints)) (omega (arith, ints)) (omega (arith, ints))
+plus-turn_of : (p : Exponent) (k : ℕ) → plus p (turn_of k) ≡ with_turns p k
+plus-turn_of p k = exponent_eq (plus p (turn_of k)) (with_turns p k) (omega arith) (omega (arith, ints)) (omega (arith, ints)) (omega (arith, ints))
 
 -- what one way adds, turned
-part_turned : (s : ℤ) (p : Exponent) (k : ℕ) (e : Exponent) → IsExponent p → IsExponent e → (if same_exponent (turned p k) e then s else pos 0) ≡ (if same_exponent p (minus e (turn_of k)) then s else pos 0)
+part_turned : (s : ℤ) (p : Exponent) (k : ℕ) (e : Exponent) → IsExponent p → IsExponent e → (if same_exponent (with_turns p k) e then s else pos 0) ≡ (if same_exponent p (minus e (turn_of k)) then s else pos 0)
 part_turned s p k e hp he =
     let turn_proper : IsExponent (turn_of k) = omega arith in
     let same = plus-turn_of p k in
     ap (λ (t : Bool). if t then s else pos 0)
-    (same_like (turned p k) e p (minus e (turn_of k)) (λ h. plus_there p (turn_of k) e hp turn_proper he (same ∙ h)) (λ h. sym same ∙ plus_back p (turn_of k) e hp turn_proper he h))
+    (same_like (with_turns p k) e p (minus e (turn_of k)) (λ h. plus_there p (turn_of k) e hp turn_proper he (same ∙ h)) (λ h. sym same ∙ plus_back p (turn_of k) e hp turn_proper he h))
 
 -- the opposite of what one way adds
 part_negated : (s : ℤ) (t : Bool) → (if t then neg_ℤ s else pos 0) ≡ neg_ℤ (if t then s else pos 0)
@@ -126,7 +126,7 @@ pub count-root2_once : (ps : List Path) (e : Exponent) → AreProper ps → IsEx
 unfolding count
 count-root2_once ps e hp he =
     let here = total-root2_once ps e hp he in
-    let half = total-root2_once ps (turned e 256) hp (turned_proper e 256) in
-    let left = ap (total ps) (turned-minus e (turn_of 64) 256) in
-    let right = ap (total ps) (turned-minus e (turn_of 192) 256) in
+    let half = total-root2_once ps (with_turns e 256) hp (turned_proper e 256) in
+    let left = ap (total ps) (with_turns-minus e (turn_of 64) 256) in
+    let right = ap (total ps) (with_turns-minus e (turn_of 192) 256) in
     omega (arith, ints)

@@ -5,9 +5,9 @@ use Rattle.std.proofs.lemmas.Int.{ints}
 use Rattle.qz_circ.specs.declared.circuit.Expr.TheVariants.{Const, Plus, Minus}
 use Rattle.qz_circ.specs.declared.circuit.Op.TheVariants.{X, Rz}
 use Rattle.qz_circ.specs.Circuit.{Circuit}
-use Rattle.qz_circ.specs.Exponent.{Exponent, IsExponent, zero_exponent, minus, param, same_exponent, turned, turn_of}
-use Rattle.qz_circ.specs.Paths.{count, total, paths, through, entry, stay, root2}
-use Rattle.qz_circ.specs.Equivalence.{scaled, Equivalent}
+use Rattle.qz_circ.specs.Exponent.{Exponent, IsExponent, zero_exponent, minus, param, same_exponent, with_turns, turn_of}
+use Rattle.qz_circ.specs.Paths.{count, total, paths, ways_through, entry, identity_ways, root2}
+use Rattle.qz_circ.specs.Equivalence.{scaled_ways, Equivalent}
 use Rattle.qz_equiv.proofs.Exponents.{exponent_eq, Decides-same_exponent}
 use Rattle.qz_equiv.proofs.Totals.{count-times_one}
 
@@ -19,8 +19,8 @@ abbrev flip_last : Circuit
 flip_last = Rz 0 (Minus 0) ∷ X 0 ∷ []
 
 -- the same counts, but for the parameter
-flip_counts : (i j : ℕ) (e : Exponent) → i < 2 → j < 2 → IsExponent e → count (scaled 1 flip_first flip_last i j) e ≡ count (scaled 1 flip_last flip_first i j) (minus e (param 0))
-unfolding scaled root2 paths through stay entry count total
+flip_counts : (i j : ℕ) (e : Exponent) → i < 2 → j < 2 → IsExponent e → count (scaled_ways 1 flip_first flip_last i j) e ≡ count (scaled_ways 1 flip_last flip_first i j) (minus e (param 0))
+unfolding scaled_ways root2 paths ways_through identity_ways entry count total
 flip_counts zero zero e hi hj he = refl
 flip_counts zero (suc zero) e hi hj he = count-times_one false (param 0) (record { sign = pos 1; exponent = minus zero_exponent (param 0) } ∷ []) e (omega arith, tt) (omega arith) he
 flip_counts (suc zero) zero e hi hj he = count-times_one false (param 0) (record { sign = pos 1; exponent = zero_exponent } ∷ []) e (omega arith, tt) (omega arith) he
@@ -49,10 +49,10 @@ phase_one u hu h =
 
 -- two turns by different constants
 pub turns_different : Equivalent 1 (Rz 0 (Const 1) ∷ []) (Rz 0 (Const 2) ∷ []) → ⊥
-unfolding scaled root2 paths through stay entry count total
+unfolding scaled_ways root2 paths ways_through identity_ways entry count total
 turns_different h =
     let at_zero = h.1.counts 0 0 zero_exponent (omega arith) (omega arith) (omega arith) in
-    let same = counted_once (same_exponent zero_exponent (minus zero_exponent h.0)) (same_exponent zero_exponent (turned (minus zero_exponent h.0) 256)) at_zero in
+    let same = counted_once (same_exponent zero_exponent (minus zero_exponent h.0)) (same_exponent zero_exponent (with_turns (minus zero_exponent h.0) 256)) at_zero in
     let one = phase_one h.0 h.1.phase ((Decides-same_exponent zero_exponent (minus zero_exponent h.0)).0 same) in
     let at_one = subst (λ (u : Exponent). count (record { sign = pos 1; exponent = turn_of 64 } ∷ []) (turn_of 64) ≡ count (record { sign = pos 1; exponent = turn_of 128 } ∷ []) (minus (turn_of 64) u)) one (h.1.counts 1 1 (turn_of 64) (omega arith) (omega arith) (omega arith)) in
     absurd (one_zero at_one)

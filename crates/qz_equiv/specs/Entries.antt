@@ -4,7 +4,7 @@ use Rattle.std.specs.List.{flat_map, AllByRecursion}
 use Rattle.qz_circ.specs.declared.circuit.Op.{Op}
 use Rattle.qz_circ.specs.Circuit.{Circuit, below, ActsBelow, HasBelow}
 use Rattle.qz_circ.specs.Exponent.{Exponent, IsExponent}
-use Rattle.qz_circ.specs.Paths.{Path, Ways, count as path_count, products, entry, root2, stay, through}
+use Rattle.qz_circ.specs.Paths.{Path, Ways, count as path_count, products, entry, root2, identity_ways, ways_through}
 use Rattle.qz_ring.specs.Exponent.{Exponent as Monomial, IsExponent as IsMonomial}
 use Rattle.qz_ring.specs.Terms.{Terms, count, weight_of, largest_reach}
 
@@ -86,11 +86,11 @@ pub record IsNextColumn (size : ℕ) (g : Op) (old new : List Terms) : Type 0 wh
 
 -- the ways through the gates of a circuit after those of a start
 abbrev pub paths_from : ℕ → Ways → Circuit → Ways
-paths_from q start c = fold (λ ways g. through q ways (entry g)) start c
+paths_from q start c = fold (λ ways g. ways_through q ways (entry g)) start c
 
 -- no gate, times the square root of two as often as the number says
 abbrev pub scaled_stay : ℕ → Ways
-scaled_stay h i j = root2 h (stay i j)
+scaled_stay h i j = root2 h (identity_ways i j)
 
 -- the ways through a circuit from one state, times the square root of two as often as the number says
 abbrev pub scaled_paths : ℕ → ℕ → Circuit → ℕ → ℕ → List Path

@@ -1,6 +1,6 @@
 -- When one matrix is a monomial times another, and the monomials that can be.
 use Rattle.std.specs.Prelude.{◌≡◌, ◌≢◌, ℕ, ◌<◌, ◌≤◌, ◌⊎◌, List, [], length, pos, Some, slice_get}
-use Rattle.qz_ring.specs.Exponent.{Exponent as Monomial, IsExponent as IsMonomial, minus, turned, reach_of}
+use Rattle.qz_ring.specs.Exponent.{Exponent as Monomial, IsExponent as IsMonomial, minus, with_turns, reach_of}
 use Rattle.qz_ring.specs.Terms.{Term, Terms, count, largest_reach}
 use Rattle.qz_equiv.specs.Entries.{row, column}
 
@@ -44,7 +44,7 @@ IsPivot matrix found = (found.0 < length matrix) × IsPivotOfColumn (column matr
 
 -- neither monomial that takes the term at place k to the lead takes y to x
 abbrev pub FailsAt : Monomial → List (List Terms) → List (List Terms) → Terms → ℕ → Type 0
-FailsAt lead x y other k = (t : Term) → slice_get other k ≡ Some t → IsMatrixShift (minus lead t.exponent) x y ⊎ IsMatrixShift (turned (minus lead t.exponent) 256) x y → ⊥
+FailsAt lead x y other k = (t : Term) → slice_get other k ≡ Some t → IsMatrixShift (minus lead t.exponent) x y ⊎ IsMatrixShift (with_turns (minus lead t.exponent) 256) x y → ⊥
 
 -- the powers in the column are small
 abbrev pub IsLow : List Terms → Type 0

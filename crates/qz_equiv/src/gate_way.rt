@@ -3,7 +3,7 @@ ghost use Rattle.std.specs.Prelude.{◌≡◌, ◌<◌, ◌≤◌, IfSome};
 ghost use Rattle.qz_circ.specs.declared.circuit.Op.TheVariants.{H, X, Cx, Rz};
 ghost use Rattle.qz_circ.specs.Circuit.{AngleHasBelow};
 ghost use Rattle.qz_circ.specs.Exponent.{angle_exponent};
-ghost use Rattle.qz_circ.specs.Paths.{entry, has_bit as bit_of, flipped as flip_of, way_if as one_if};
+ghost use Rattle.qz_circ.specs.Paths.{entry, has_bit as bit_of, flipped_state as flip_of, way_if as one_if};
 ghost use Rattle.qz_equiv.specs.Entries.{IsPlain, ways_of, sign_of, turn_alone};
 
 use qz_circ::{Expr, Op};
@@ -17,7 +17,7 @@ fn has_bit(t: u8, state: u64) -> bool
 }
 
 // The state with qubit t flipped.
-fn flipped(t: u8, state: u64) -> u64
+fn flipped_state(t: u8, state: u64) -> u64
     requires { t < 3 }
     ensures { result ≡ flip_of t state }
 {
@@ -52,7 +52,7 @@ fn way_through_h(t: u8, i: u64, k: u64) -> Option<(bool, u16)>
     ensures turn { IfSome result (λ way. way.1 < 512) }
 {
     way_if(
-        i == k || i == flipped(t, k),
+        i == k || i == flipped_state(t, k),
         has_bit(t, i) && has_bit(t, k),
         0,
     )
@@ -64,7 +64,7 @@ fn way_through_x(t: u8, i: u64, k: u64) -> Option<(bool, u16)>
     ensures ways { entry (X t) i k ≡ ways_of result }
     ensures turn { IfSome result (λ way. way.1 < 512) }
 {
-    way_if(i == flipped(t, k), false, 0)
+    way_if(i == flipped_state(t, k), false, 0)
 }
 
 #[tactic(auto, unfolding(qz_circ::specs::Paths::entry))]
@@ -74,7 +74,11 @@ fn way_through_cx(c: u8, t: u8, i: u64, k: u64) -> Option<(bool, u16)>
     ensures ways { entry (Cx c t) i k ≡ ways_of result }
     ensures turn { IfSome result (λ way. way.1 < 512) }
 {
-    let to = if has_bit(c, k) { flipped(t, k) } else { k };
+    let to = if has_bit(c, k) {
+        flipped_state(t, k)
+    } else {
+        k
+    };
     way_if(i == to, false, 0)
 }
 

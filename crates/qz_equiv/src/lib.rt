@@ -21,8 +21,6 @@ mod gate_way;
 pub mod laws;
 mod matrix;
 mod phase;
-#[cfg(test)]
-mod tests;
 pub mod worked_values;
 
 // How many gates are H.

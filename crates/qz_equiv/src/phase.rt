@@ -1,6 +1,6 @@
 //! Whether one matrix is a monomial times another.
 ghost use Rattle.std.specs.Prelude.{◌≡◌, ◌≢◌, ◌↔◌, ◌+◌, ◌<◌, ◌≤◌, ◌⊎◌, ℕ, pos, [], length, IsTrue, IfOk, MatchOption};
-ghost use Rattle.qz_ring.specs.Exponent.{Exponent as Monomial, IsExponent as IsMonomial, minus, turned, reach_of};
+ghost use Rattle.qz_ring.specs.Exponent.{Exponent as Monomial, IsExponent as IsMonomial, minus, with_turns, reach_of};
 ghost use Rattle.qz_ring.specs.Terms.{count, largest_reach};
 ghost use Rattle.qz_equiv.specs.Entries.{row, column};
 ghost use Rattle.qz_equiv.specs.Phases.{IsShift, IsColumnShift, IsMatrixShift, HasPhase, IsLead, IsZeroColumn, IsPivotOfColumn, IsZeroMatrix, IsPivot, IsLow, AreLow, SameShape};
@@ -66,7 +66,7 @@ fn quotient_of(a: Exponent, b: Exponent) -> Exponent
 
 // The exponent with half a turn more.
 fn half_turned(e: Exponent) -> Exponent
-    ensures value { result ≡ turned e 256 }
+    ensures value { result ≡ with_turns e 256 }
     ensures reach { reach_of result ≡ reach_of e }
 {
     let powers = e.powers;
@@ -81,7 +81,7 @@ fn same_either_way(x: &Matrix, y: &Matrix, by: Exponent) -> Result<bool, Memory>
     requires shape { SameShape x.now y.now }
     requires low { AreLow y.now }
     requires reach { reach_of by ≤ 200 }
-    ensures { IfOk result (λ same. IsTrue same ↔ (IsMatrixShift by x.now y.now ⊎ IsMatrixShift (turned by 256) x.now y.now)) }
+    ensures { IfOk result (λ same. IsTrue same ↔ (IsMatrixShift by x.now y.now ⊎ IsMatrixShift (with_turns by 256) x.now y.now)) }
 {
     if same_matrix(x, y, by)? {
         return Ok(true);

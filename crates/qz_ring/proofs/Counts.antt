@@ -7,7 +7,7 @@ use Rattle.std.specs.List.{All}
 use Rattle.std.proofs.lemmas.List.Elements.{All-nil, All-cons, All-head, All-tail, All-weaker}
 use Rattle.std.proofs.lemmas.Bool.Decides.{nat_tests}
 use Rattle.std.proofs.lemmas.Int.{ints, to_z-of_z, fits_signed_from_abs}
-use Rattle.qz_ring.specs.Exponent.{Exponent, IsExponent, minus, turn_alone, turned, same_exponent, ExponentBefore}
+use Rattle.qz_ring.specs.Exponent.{Exponent, IsExponent, minus, turn_alone, with_turns, same_exponent, ExponentBefore}
 use Rattle.qz_ring.specs.Terms.{Term, Terms, part_at, coefficient_at, count, weight_of, IsCanonical}
 use Rattle.qz_ring.specs.Shifting.{IsTimesRoot2}
 use Rattle.qz_ring.proofs.Order.{same_exponent-self, after_differs, same_from_parts, exponent_cases, ExponentBefore-trans}
@@ -38,16 +38,16 @@ coefficient_at-past_half (t ∷ ts) e low past =
 pub count-below_half : (ts : Terms) → IsCanonical ts → (e : Exponent) → e.turn < 256 → count ts e ≡ coefficient_at ts e
 count-below_half ts canonical e low =
     let past : 256 ≤ (e.turn + 256) % 512 = omega arith in
-    let none = coefficient_at-past_half ts (turned e 256) canonical.half_turns past in
+    let none = coefficient_at-past_half ts (with_turns e 256) canonical.half_turns past in
     omega (arith, ints, none)
 
 -- half a turn twice is no turn
-turned-twice : (e : Exponent) → IsExponent e → turned (turned e 256) 256 ≡ e
-turned-twice e in_circle = same_from_parts (turned (turned e 256) 256) e (let twice : ((e.turn + 256) % 512 + 256) % 512 ≡ e.turn = omega arith in twice) refl refl refl
+with_turns-twice : (e : Exponent) → IsExponent e → with_turns (with_turns e 256) 256 ≡ e
+with_turns-twice e in_circle = same_from_parts (with_turns (with_turns e 256) 256) e (let twice : ((e.turn + 256) % 512 + 256) % 512 ≡ e.turn = omega arith in twice) refl refl refl
 
 -- half a turn further, the count has the other sign
-pub count-half_turn : (ts : Terms) (e : Exponent) → IsExponent e → count ts (turned e 256) ≡ neg_ℤ (count ts e)
-count-half_turn ts e in_circle = rw (turned-twice e in_circle) (let flips : (x y : ℤ) → x -ℤ y ≡ neg_ℤ (y -ℤ x) = λ x y. omega (arith, ints) in flips (coefficient_at ts (turned e 256)) (coefficient_at ts e))
+pub count-half_turn : (ts : Terms) (e : Exponent) → IsExponent e → count ts (with_turns e 256) ≡ neg_ℤ (count ts e)
+count-half_turn ts e in_circle = rw (with_turns-twice e in_circle) (let flips : (x y : ℤ) → x -ℤ y ≡ neg_ℤ (y -ℤ x) = λ x y. omega (arith, ints) in flips (coefficient_at ts (with_turns e 256)) (coefficient_at ts e))
 
 -- before all terms there is nothing
 coefficient_at-before : (ts : Terms) (e : Exponent) → All (λ u. ExponentBefore e u.exponent) ts → coefficient_at ts e ≡ pos 0
@@ -121,9 +121,9 @@ minus-twice e j k n in_circle j_in k_in sum =
     minus_none x = omega (arith, ints)
 
 -- going back by half a turn and more is going on by half a turn from there
-minus-past_half : (e : Exponent) (k n : ℕ) → e.turn < 512 → k < 512 → (k + 256) % 512 ≡ n → minus e (turn_alone n) ≡ turned (minus e (turn_alone k)) 256
+minus-past_half : (e : Exponent) (k n : ℕ) → e.turn < 512 → k < 512 → (k + 256) % 512 ≡ n → minus e (turn_alone n) ≡ with_turns (minus e (turn_alone k)) 256
 minus-past_half e k n in_circle k_in sum =
-    same_from_parts (minus e (turn_alone n)) (turned (minus e (turn_alone k)) 256)
+    same_from_parts (minus e (turn_alone n)) (with_turns (minus e (turn_alone k)) 256)
     (let turns : (e.turn + (512 - n)) % 512 ≡ ((e.turn + (512 - k)) % 512 + 256) % 512 = omega arith in turns)
     refl refl refl
 

@@ -10,7 +10,7 @@ use Rattle.std.proofs.lemmas.List.{append-nil, take_all, drop_all}
 use Rattle.std.proofs.Math.Seq.{drop-cons}
 use Rattle.std.proofs.lemmas.Int.{ints, to_z-of_z, fits_signed_from_abs}
 use Rattle.std.specs.Int.{w128}
-use Rattle.qz_ring.specs.Exponent.{Exponent, turned, same_exponent, ExponentBefore, reach_of}
+use Rattle.qz_ring.specs.Exponent.{Exponent, with_turns, same_exponent, ExponentBefore, reach_of}
 use Rattle.qz_ring.specs.Terms.{Term, Terms, signed, signed_term, part_at, coefficient_at, count, weight_of, largest_reach, IsCanonical}
 use Rattle.qz_ring.specs.Merging.{joined, IsMerging, IsMerged}
 use Rattle.qz_ring.proofs.Numbers.{unsigned_abs-add, unsigned_abs-signed, signed-add}
@@ -262,7 +262,7 @@ signed-sub false a b = refl
 -- the counts of the whole
 pub count-merged : (n : Bool) (left right merged : Terms) → IsMerged n left right merged → (e : Exponent) → count merged e ≡ count left e +ℤ signed n (count right e)
 count-merged n left right merged m e =
-    let half = turned e 256 in
+    let half = with_turns e 256 in
     difference (coefficient_at merged e) (coefficient_at merged half) (coefficient_at left e) (coefficient_at left half) (signed n (coefficient_at right e)) (signed n (coefficient_at right half)) (signed n (count right e)) (m.coefficients e) (m.coefficients half) (signed-sub n (coefficient_at right e) (coefficient_at right half))
   where
     difference : (m m' l l' r r' s : ℤ) → m ≡ l +ℤ r → m' ≡ l' +ℤ r' → r -ℤ r' ≡ s → m -ℤ m' ≡ (l -ℤ l') +ℤ s

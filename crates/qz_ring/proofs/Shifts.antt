@@ -8,7 +8,7 @@ use Rattle.std.proofs.lemmas.List.Elements.{All-head, All-tail, All-append, All-
 use Rattle.std.proofs.lemmas.Bool.{cases_lt}
 use Rattle.std.proofs.lemmas.Bool.Decides.{nat_tests, same_from_decides, Decides-like, Decides-eqb, Decides-int_eq}
 use Rattle.std.proofs.lemmas.Int.{ints}
-use Rattle.qz_ring.specs.Exponent.{Exponent, IsExponent, plus, minus, turned, same_powers, PowersBefore, ExponentBefore, reach_of}
+use Rattle.qz_ring.specs.Exponent.{Exponent, IsExponent, plus, minus, with_turns, same_powers, PowersBefore, ExponentBefore, reach_of}
 use Rattle.qz_ring.specs.Terms.{Term, Terms, signed, part_at, coefficient_at, count, weight_of, largest_reach, reach_times, IsCanonical}
 use Rattle.qz_ring.specs.Shifting.{half_turned, shifted_term, IsShifted}
 use Rattle.qz_ring.proofs.Numbers.{unsigned_abs-signed}
@@ -111,14 +111,14 @@ turned_part p z t b e t_in b_in e_in = elim (cases_lt ((t + b) % 512) 256) [
 ]
 
 -- a shifted term counts where the term counted before
-part-shifted : (t : Term) (by e : Exponent) → t.exponent.turn < 256 → by.turn < 512 → IsExponent e → part_at (shifted_term by t) e -ℤ part_at (shifted_term by t) (turned e 256) ≡ part_at t (minus e by) -ℤ part_at t (turned (minus e by) 256)
+part-shifted : (t : Term) (by e : Exponent) → t.exponent.turn < 256 → by.turn < 512 → IsExponent e → part_at (shifted_term by t) e -ℤ part_at (shifted_term by t) (with_turns e 256) ≡ part_at t (minus e by) -ℤ part_at t (with_turns (minus e by) 256)
 part-shifted t by e t_in by_in e_in = rw (same_powers-moved t.exponent by e) (turned_part (same_powers t.exponent (minus e by)) t.coefficient t.exponent.turn by.turn e.turn t_in by_in e_in)
 
 -- shifted terms count where the terms counted before
 count-shifted : (by : Exponent) (ts : Terms) (e : Exponent) → All (λ t. t.exponent.turn < 256) ts → by.turn < 512 → IsExponent e → count (map (shifted_term by) ts) e ≡ count ts (minus e by)
 count-shifted by [] e low by_in e_in = refl
 count-shifted by (t ∷ ts) e low by_in e_in =
-    joined_counts (part_at (shifted_term by t) e) (part_at (shifted_term by t) (turned e 256)) (part_at t (minus e by)) (part_at t (turned (minus e by) 256)) _ _ _ _
+    joined_counts (part_at (shifted_term by t) e) (part_at (shifted_term by t) (with_turns e 256)) (part_at t (minus e by)) (part_at t (with_turns (minus e by) 256)) _ _ _ _
     (part-shifted t by e (All-head (λ t. t.exponent.turn < 256) t ts low) by_in e_in)
     (count-shifted by ts e (All-tail (λ t. t.exponent.turn < 256) t ts low) by_in e_in)
   where
@@ -208,7 +208,7 @@ module _ (by : Exponent) where
       }
     where
       rotated_count : (e : Exponent) → count (drop k ts ++ take k ts) e ≡ count ts e
-      rotated_count e = ap (λ (z : ℤ). z -ℤ coefficient_at (drop k ts ++ take k ts) (turned e 256)) (coefficient_at-rotated ts k e) ∙ ap (λ (z : ℤ). coefficient_at ts e -ℤ z) (coefficient_at-rotated ts k (turned e 256))
+      rotated_count e = ap (λ (z : ℤ). z -ℤ coefficient_at (drop k ts ++ take k ts) (with_turns e 256)) (coefficient_at-rotated ts k e) ∙ ap (λ (z : ℤ). coefficient_at ts e -ℤ z) (coefficient_at-rotated ts k (with_turns e 256))
 
       rotated_length : length (drop k ts ++ take k ts) ≡ length ts
       rotated_length = omega (arith, length-append (drop k ts) (take k ts), sym (length-append (take k ts) (drop k ts)) ∙ ap length (take-append-drop k ts))

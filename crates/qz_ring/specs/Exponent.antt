@@ -30,8 +30,8 @@ abbrev pub minus : Exponent → Exponent → Exponent
 minus a b = record { turn = (a.turn + (512 - b.turn)) % 512; x0 = a.x0 -ℤ b.x0; x1 = a.x1 -ℤ b.x1; x2 = a.x2 -ℤ b.x2 }
 
 -- the exponent turned on by k, with the same powers
-abbrev pub turned : Exponent → ℕ → Exponent
-turned e k = record { turn = (e.turn + k) % 512; x0 = e.x0; x1 = e.x1; x2 = e.x2 }
+abbrev pub with_turns : Exponent → ℕ → Exponent
+with_turns e k = record { turn = (e.turn + k) % 512; x0 = e.x0; x1 = e.x1; x2 = e.x2 }
 
 -- whether two exponents have the same powers
 abbrev pub same_powers : Exponent → Exponent → Bool

@@ -1,7 +1,7 @@
 -- Sums of monomials with whole coefficients, as lists of terms.
 use Rattle.std.specs.Prelude.{◌≡◌, ◌≢◌, ℕ, ◌+◌, ◌<◌, max, Bool, true, false, List, [], ◌∷◌, if◌then◌else◌, ℤ, pos, ◌+ℤ◌, ◌-ℤ◌, neg_ℤ, unsigned_abs}
 use Rattle.std.specs.List.{All, AllPairs}
-use Rattle.qz_ring.specs.Exponent.{Exponent, plus, same_exponent, turned, ExponentBefore, reach_of}
+use Rattle.qz_ring.specs.Exponent.{Exponent, plus, same_exponent, with_turns, ExponentBefore, reach_of}
 
 -- a monomial with a whole coefficient
 pub record Term : Type 0 where
@@ -32,7 +32,7 @@ coefficient_at (t ∷ ts) e = part_at t e +ℤ coefficient_at ts e
 
 -- how often the monomial counts: half a turn further it counts with the other sign
 abbrev pub count : Terms → Exponent → ℤ
-count ts e = coefficient_at ts e -ℤ coefficient_at ts (turned e 256)
+count ts e = coefficient_at ts e -ℤ coefficient_at ts (with_turns e 256)
 
 -- the sum of the absolute coefficients
 abbrev pub weight_of : Terms → ℕ

@@ -222,6 +222,3 @@ fn weigh(terms: &[Term]) -> u128
     }
     weight
 }
-
-#[cfg(test)]
-mod tests;

@@ -1,4 +1,4 @@
-use Rattle.qz_equiv.proofs.tests.decision.Given as goal
+use Rattle.quartz.proofs.tests.equivalence.decision.Given as goal
 
 abbrev pub ghosts-counted : goal.ghosts-counted
 ghosts-counted a = record { name = a.blank.name; parts = a.blank.parts }

@@ -1,8 +1,9 @@
+//! Which circuits are equivalent.
 ghost use Rattle.std.specs.Prelude.{◌≡◌, ◌+◌, ◌<◌, ◌≤◌, length};
 ghost use Rattle.qz_circ.specs.Circuit.{IsOn};
 
-use crate::decide;
 use qz_circ::{Expr, Memory, Op, Steps};
+use qz_equiv::decide;
 use std::alloc::Global;
 use std::marker::Brand;
 use std::sync::ledger::{Blank, Ledger};

@@ -1,5 +1,6 @@
-//! Worked rows, as tables.
-use crate::{Bounds, Classes, Expr, LimitFault, Op, length_of, op_number, op_of, rank, unrank};
+//! Bounds, ranks and lists of classes.
+
+use qz_circ::{Bounds, Classes, Expr, LimitFault, Op, length_of, op_number, op_of, rank, unrank};
 use std::test::Fail;
 
 #[test]

@@ -1,6 +1,6 @@
-// Small sums of monomials, with each public call once on its happy path.
+//! Small sums of monomials.
 
-use super::*;
+use qz_ring::{Elem, Exponent};
 use std::test::Fail;
 
 // The square root of 2, twice, doubles; and the sum of the turns by 0 and 256 is zero.
@@ -49,7 +49,7 @@ fn one_has_one_term_and_zero_none(rt: HostRuntime) -> Result<(), Fail> {
 
 // The powers of the unknowns add up, and order the terms of one turn.
 #[test]
-#[tactic(auto, using(crate::proofs::Sums::reach_times_le))]
+#[tactic(auto, using(qz_ring::proofs::Sums::reach_times_le))]
 fn powers_add_up_and_order_the_terms(rt: HostRuntime) -> Result<(), Fail> {
     let step = Exponent {
         turn: 300,
