@@ -16,11 +16,6 @@ exponent_of m = record { turn = m.turn; x0 = m.x0; x1 = m.x1; x2 = m.x2 }
 abbrev pub monomial_of : Exponent → Monomial
 monomial_of e = record { turn = e.turn; x0 = e.x0; x1 = e.x1; x2 = e.x2 }
 
--- the number, with the other sign where it is negated
-abbrev pub signed : Bool → ℤ → ℤ
-signed true z = neg_ℤ z
-signed false z = z
-
 -- the sign of a way: -1 where it is negated, and else 1
 abbrev pub sign_of : Bool → ℤ
 sign_of true = negsuc 0
