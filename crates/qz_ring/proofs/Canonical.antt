@@ -1,5 +1,5 @@
 -- Lists in the one form: their parts, their joins, and what they are mapped to.
-use Rattle.std.proofs.Common.{◌≡◌, ℕ, zero, suc, ◌<◌, ◌≢◌, List, [], ◌∷◌, ◌++◌, map, get_or, ℤ, pos, arith}
+use Rattle.std.proofs.Common.{◌≡◌, zero, suc, ◌<◌, ◌≢◌, [], ◌∷◌, ◌++◌, map, get_or, pos, arith}
 use Rattle.std.specs.List.{All, AllPairs}
 use Rattle.std.proofs.lemmas.List.Elements.{All-nil, All-cons, All-head, All-tail, All-append, All-weaker}
 use Rattle.qz_ring.specs.Exponent.{ExponentBefore}

@@ -9,7 +9,7 @@ use Rattle.std.proofs.lemmas.Bool.Decides.{nat_tests}
 use Rattle.std.proofs.lemmas.Int.{ints, to_z-of_z, fits_signed_from_abs}
 use Rattle.qz_ring.specs.Exponent.{Exponent, IsExponent, minus, turn_alone, turned, same_exponent, ExponentBefore}
 use Rattle.qz_ring.specs.Terms.{Term, Terms, part_at, coefficient_at, count, weight_of, IsCanonical}
-use Rattle.qz_ring.specs.Shifting.{IsTimesRoot2}
+use Rattle.qz_ring.specs.Counts.{SameCounts, CountsNothing, IsSum, IsTimesRoot2}
 use Rattle.qz_ring.proofs.Order.{same_exponent-self, after_differs, same_from_parts, exponent_cases, ExponentBefore-trans}
 use Rattle.qz_ring.proofs.Sums.{part_at-other, part_at-own}
 use Rattle.qz_ring.proofs.Canonical.{TermBefore, head_normal, head_before, IsCanonical-nil, IsCanonical-tail}
@@ -98,12 +98,12 @@ terms_from_coefficients (x ∷ xs) (y ∷ ys) left right same = elim (exponent_c
 ]
 
 -- lists in the one form with the same counts are the same
-pub terms_from_counts : (xs ys : Terms) → IsCanonical xs → IsCanonical ys → ((e : Exponent) → IsExponent e → count xs e ≡ count ys e) → xs ≡ ys
+pub terms_from_counts : (xs ys : Terms) → IsCanonical xs → IsCanonical ys → SameCounts xs ys → xs ≡ ys
 terms_from_counts xs ys left right same =
     terms_from_coefficients xs ys left right (λ e low. sym (count-below_half xs left e low) ∙ same e (omega arith) ∙ count-below_half ys right e low)
 
 -- a list in the one form with no counts is empty
-pub empty_from_counts : (xs : Terms) → IsCanonical xs → ((e : Exponent) → IsExponent e → count xs e ≡ pos 0) → xs ≡ []
+pub empty_from_counts : (xs : Terms) → IsCanonical xs → CountsNothing xs → xs ≡ []
 empty_from_counts xs canonical none = terms_from_counts xs [] canonical IsCanonical-nil none
 
 -- the count at the first exponent is the first coefficient
@@ -143,7 +143,7 @@ count-back_half ts e k n in_circle k_in sum =
     ap (count ts) (minus-past_half e k n in_circle k_in sum) ∙ count-half_turn ts (minus e (turn_alone k)) (let low : (e.turn + (512 - k)) % 512 < 512 = omega arith in low)
 
 -- the square root of 2 twice doubles each count
-pub root2-twice : (a b c : Terms) → IsTimesRoot2 a b → IsTimesRoot2 b c → (e : Exponent) → IsExponent e → count c e ≡ count a e +ℤ count a e
+pub root2-twice : (a b c : Terms) → IsTimesRoot2 a b → IsTimesRoot2 b c → IsSum a a c
 root2-twice a b c first second e in_circle =
     let low : (k : ℕ) → IsExponent (minus e (turn_alone k)) = λ k. omega arith in
     let back = λ (j k n : ℕ) (p : j < 512) (q : k < 512) (s : (j + k) % 512 ≡ n). ap (count a) (minus-twice e j k n in_circle p q s) in

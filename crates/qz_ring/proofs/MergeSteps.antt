@@ -1,5 +1,5 @@
 -- The steps of a merge, each of which keeps `IsMerging`, and its end.
-use Rattle.std.proofs.Common.{◌≡◌, ◌≢◌, ℕ, ◌+◌, ◌≤◌, max, Bool, true, false, cond, ◌⊎◌, List, [], ◌∷◌, ◌++◌, map, length, ℤ, pos, ◌+ℤ◌, ◌^◌, to_z, of_z, refl, sym, ap, subst, ◌∙◌, suc, ◌<◌, ◌-◌, ◌-ℤ◌, if◌then◌else◌, take, drop, length-drop, add-one, append_assoc, length-append, get_or, inl, inr, arith}
+use Rattle.std.proofs.Common.{◌≡◌, ◌≢◌, ℕ, ◌+◌, ◌≤◌, max, Bool, true, false, cond, ◌⊎◌, [], ◌∷◌, ◌++◌, map, length, ℤ, pos, ◌+ℤ◌, ◌^◌, to_z, of_z, refl, sym, ap, subst, ◌∙◌, suc, ◌<◌, ◌-◌, ◌-ℤ◌, if◌then◌else◌, take, drop, length-drop, add-one, append_assoc, length-append, get_or, inl, inr, arith}
 use mathlib.Core.Bool.{false≢true}
 use Rattle.std.specs.Prelude.{unsigned_abs}
 use Rattle.std.specs.Bool.{Decides}
@@ -15,7 +15,7 @@ use Rattle.qz_ring.specs.Terms.{Term, Terms, signed, signed_term, part_at, coeff
 use Rattle.qz_ring.specs.Merging.{joined, IsMerging, IsMerged}
 use Rattle.qz_ring.proofs.Numbers.{unsigned_abs-add, unsigned_abs-signed, signed-add}
 use Rattle.qz_ring.proofs.Sums.{coefficient_at-append, weight_of-append, largest_reach-append}
-use Rattle.qz_ring.proofs.Canonical.{TermBefore, head_normal, canonical_before, canonical_replaced, canonical_without, IsCanonical-split, IsCanonical-join, IsJoin, IsNormal, Keeps, IsCanonical-map}
+use Rattle.qz_ring.proofs.Canonical.{TermBefore, head_normal, canonical_before, canonical_replaced, canonical_without, IsCanonical-split, IsCanonical-join, IsJoin, Keeps, IsCanonical-map}
 
 -- a sign of 0 is 0
 signed-zero : (n : Bool) → signed n (pos 0) ≡ pos 0

@@ -1,10 +1,10 @@
 -- The order of exponents, and when two are the same.
-use Rattle.std.proofs.Common.{◌≡◌, ◌∙◌, ◌⊎◌, ℕ, ℤ, ◌<ℤ◌, Bool, true, false, refl, sym, ap, inl, inr, arith}
+use Rattle.std.proofs.Common.{◌≡◌, ◌∙◌, ◌⊎◌, ℕ, ℤ, ◌<ℤ◌, true, false, refl, sym, ap, inl, inr, arith}
 use Rattle.std.specs.Bool.{Decides}
 use Rattle.std.proofs.lemmas.Int.{ints, by_lt_z}
 use Rattle.std.proofs.lemmas.Bool.{cases_order}
 use Rattle.std.proofs.lemmas.Bool.Decides.{Decides-and, Decides-eqb, Decides-int_eq, Decides-like}
-use Rattle.qz_ring.specs.Exponent.{Exponent, same_powers, same_exponent, PowersBefore, ExponentBefore}
+use Rattle.qz_ring.specs.Exponent.{Exponent, same_exponent, PowersBefore, ExponentBefore}
 
 -- exponents with the same turn and powers are the same
 pub same_from_parts : (a b : Exponent) → a.turn ≡ b.turn → a.x0 ≡ b.x0 → a.x1 ≡ b.x1 → a.x2 ≡ b.x2 → a ≡ b

@@ -1,5 +1,5 @@
 -- What holds while two sums are added or subtracted, term by term.
-use Rattle.std.specs.Prelude.{◌≡◌, ℕ, ◌+◌, ◌≤◌, max, Bool, ◌++◌, length, [], ◌∷◌, if◌then◌else◌, ℤ, pos, ◌+ℤ◌}
+use Rattle.std.specs.Prelude.{◌≡◌, ◌+◌, ◌≤◌, max, Bool, ◌++◌, length, [], ◌∷◌, if◌then◌else◌, pos, ◌+ℤ◌}
 use Rattle.std.specs.Ordering.{int_eq}
 use Rattle.qz_ring.specs.Exponent.{Exponent}
 use Rattle.qz_ring.specs.Terms.{Term, Terms, signed, coefficient_at, weight_of, largest_reach, IsCanonical}

@@ -1,10 +1,10 @@
 //! Sums of monomials with whole coefficients.
 
-ghost use Rattle.std.specs.Prelude.{◌≡◌, ◌≢◌, ◌↔◌, ◌+◌, ◌*◌, ◌^◌, ◌<◌, ◌≤◌, max, pos, ◌+ℤ◌, ◌-ℤ◌, [], ◌∷◌, length, slice_get, Some, IsTrue, IfSome, IsNone, IfOk, OnOk, OnErr};
-ghost use Rattle.qz_ring.specs.Exponent.{Exponent as Monomial, IsExponent, zero_exponent, minus, reach_of, turn_alone};
-ghost use Rattle.qz_ring.specs.Terms.{Terms, count, weight_of, largest_reach, reach_times};
+ghost use Rattle.std.specs.Prelude.{◌≡◌, ◌≢◌, ◌↔◌, ◌+◌, ◌*◌, ◌^◌, ◌<◌, ◌≤◌, max, pos, [], ◌∷◌, length, slice_get, Some, IsTrue, IfSome, IsNone, IfOk, OnOk, OnErr};
+ghost use Rattle.qz_ring.specs.Exponent.{zero_exponent, reach_of, turn_alone};
+ghost use Rattle.qz_ring.specs.Terms.{count, weight_of, largest_reach, reach_times};
 ghost use Rattle.qz_ring.specs.Merging.{IsMerged};
-ghost use Rattle.qz_ring.specs.Shifting.{IsTimesRoot2};
+ghost use Rattle.qz_ring.specs.Counts.{SameCounts, CountsNothing, IsSum, IsDifference, IsTimesMonomial, IsTimesRoot2};
 
 use crate::Memory;
 use crate::exponent::Exponent;
@@ -25,7 +25,7 @@ pub struct Elem {
 
 impl Model for Elem {
     ghost use Rattle.std.specs.Prelude.{◌^◌, ◌≤◌};
-    ghost use Rattle.qz_ring.specs.Terms.{Terms, IsCanonical, weight_of, largest_reach, reach_times};
+    ghost use Rattle.qz_ring.specs.Terms.{Terms, IsCanonical, weight_of, largest_reach};
 
     ghost Value = { Terms };
 
@@ -74,7 +74,7 @@ impl Elem {
     /// Adds another sum.
     pub fn add(&mut self, other: &Elem) -> Result<(), Memory>
         requires { weight_of self.old + weight_of other.now ≤ 2 ^ 120 }
-        ensures counts { OnOk result ((e : Monomial) → IsExponent e → count self.new e ≡ count self.old e +ℤ count other.now e) }
+        ensures counts { OnOk result (IsSum self.old other.now self.new) }
         ensures weight { OnOk result (weight_of self.new ≤ weight_of self.old + weight_of other.now) }
         ensures reach { OnOk result (largest_reach self.new ≤ max (largest_reach self.old) (largest_reach other.now)) }
         ensures err { OnErr result (self.new ≡ self.old) }
@@ -85,7 +85,7 @@ impl Elem {
     /// Subtracts another sum.
     pub fn sub(&mut self, other: &Elem) -> Result<(), Memory>
         requires { weight_of self.old + weight_of other.now ≤ 2 ^ 120 }
-        ensures counts { OnOk result ((e : Monomial) → IsExponent e → count self.new e ≡ count self.old e -ℤ count other.now e) }
+        ensures counts { OnOk result (IsDifference self.old other.now self.new) }
         ensures weight { OnOk result (weight_of self.new ≤ weight_of self.old + weight_of other.now) }
         ensures reach { OnOk result (largest_reach self.new ≤ max (largest_reach self.old) (largest_reach other.now)) }
         ensures err { OnErr result (self.new ≡ self.old) }
@@ -108,7 +108,7 @@ impl Elem {
     /// memory.
     pub fn shift(&mut self, by: Exponent)
         requires { reach_times self.old by ≤ 2 ^ 40 }
-        ensures counts { (e : Monomial) → IsExponent e → count self.new e ≡ count self.old (minus e by) }
+        ensures counts { IsTimesMonomial by self.old self.new }
         ensures weight { weight_of self.new ≡ weight_of self.old }
         ensures length { length self.new ≡ length self.old }
         ensures reach { largest_reach self.new ≡ reach_times self.old by }
@@ -135,7 +135,7 @@ impl Elem {
     #[tactic(auto, using(crate::proofs::Sums::reach_times_le))]
     fn turned_copy(&self, turn: u16) -> Result<Elem, Memory>
         requires { turn < 512 }
-        ensures counts { IfOk result (λ turned. (e : Monomial) → IsExponent e → count turned e ≡ count self.now (minus e (turn_alone turn))) }
+        ensures counts { IfOk result (IsTimesMonomial (turn_alone turn) self.now) }
         ensures weight { IfOk result (λ turned. weight_of turned ≡ weight_of self.now) }
         ensures reach { IfOk result (λ turned. largest_reach turned ≤ largest_reach self.now) }
     {
@@ -151,7 +151,7 @@ impl Elem {
     /// Whether the sum is zero.
     pub fn is_zero(&self) -> bool
         ensures empty { IsTrue result ↔ (self.now ≡ []) }
-        ensures counts { IsTrue result ↔ ((e : Monomial) → IsExponent e → count self.now e ≡ pos 0) }
+        ensures counts { IsTrue result ↔ CountsNothing self.now }
     {
         self.terms.is_empty()
     }
@@ -159,7 +159,7 @@ impl Elem {
     /// Whether the two sums are the same.
     pub fn same(&self, other: &Elem) -> bool
         ensures equal { IsTrue result ↔ (self.now ≡ other.now) }
-        ensures counts { IsTrue result ↔ ((e : Monomial) → IsExponent e → count self.now e ≡ count other.now e) }
+        ensures counts { IsTrue result ↔ SameCounts self.now other.now }
     {
         same_terms(&self.terms, &other.terms)
     }
@@ -178,6 +178,7 @@ impl Elem {
         ensures none { IsNone result ↔ (self.now ≡ []) }
         ensures first { IfSome result (λ lead. slice_get self.now 0 ≡ Some (record { exponent = lead.0; coefficient = lead.1 })) }
         ensures half_turn { IfSome result (λ lead. lead.0.turn < 256) }
+        ensures reach { IfSome result (λ lead. reach_of lead.0 ≤ 2 ^ 40) }
         ensures counted { IfSome result (λ lead. count self.now lead.0 ≡ lead.1) }
         ensures nonzero { IfSome result (λ lead. lead.1 ≢ pos 0) }
     {
@@ -197,7 +198,10 @@ impl Elem {
     /// The exponent and the coefficient of the term at a place.
     pub fn term(&self, k: u64) -> (Exponent, i128)
         requires { k < length self.now }
-        ensures { slice_get self.now k ≡ Some (record { exponent = result.0; coefficient = result.1 }) }
+        ensures value { slice_get self.now k ≡ Some (record { exponent = result.0; coefficient = result.1 }) }
+        ensures half_turn { result.0.turn < 256 }
+        ensures reach { reach_of result.0 ≤ 2 ^ 40 }
+        ensures nonzero { result.1 ≢ pos 0 }
     {
         let term = self.terms[k as usize];
         (term.exponent, term.coefficient)

@@ -1,13 +1,13 @@
 //! Laws of the definitions, each the contract of a function with an empty body.
 
-ghost use Rattle.std.specs.Prelude.{◌≡◌, ◌+◌, ◌≤◌, ◌+ℤ◌, neg_ℤ};
+ghost use Rattle.std.specs.Prelude.{◌≡◌, ◌+◌, ◌≤◌, neg_ℤ};
 ghost use Rattle.qz_ring.specs.Exponent.{Exponent as Monomial, IsExponent, turned, reach_of};
 ghost use Rattle.qz_ring.specs.Terms.{Terms, count, largest_reach, reach_times, IsCanonical};
-ghost use Rattle.qz_ring.specs.Shifting.{IsTimesRoot2};
+ghost use Rattle.qz_ring.specs.Counts.{SameCounts, IsSum, IsTimesRoot2};
 
 /// Two lists in the one form with the same counts are the same list.
 pub fn counts_determine_terms()
-    ensures { (a b : Terms) → IsCanonical a → IsCanonical b → ((e : Monomial) → IsExponent e → count a e ≡ count b e) → a ≡ b }
+    ensures { (a b : Terms) → IsCanonical a → IsCanonical b → SameCounts a b → a ≡ b }
 {}
 
 /// Half a turn further, every count has the other sign.
@@ -22,5 +22,5 @@ pub fn products_reach_at_most_sum()
 
 /// Two multiplications by the square root of 2 double every count.
 pub fn root2_twice_doubles()
-    ensures { (a b c : Terms) → IsTimesRoot2 a b → IsTimesRoot2 b c → (e : Monomial) → IsExponent e → count c e ≡ count a e +ℤ count a e }
+    ensures { (a b c : Terms) → IsTimesRoot2 a b → IsTimesRoot2 b c → IsSum a a c }
 {}

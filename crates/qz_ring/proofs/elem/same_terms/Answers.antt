@@ -2,7 +2,6 @@ use Rattle.std.proofs.Common.{◌≡◌, ap, refl, true}
 use Rattle.std.specs.Bool.{Decides}
 use Rattle.std.proofs.lemmas.Bool.Decides.{Decides-and, Decides-eqb, Decides-int_eq, Decides-like}
 use Rattle.std.proofs.lemmas.Slice.Eq.{slice_eq-Decides}
-use Rattle.qz_ring.specs.Exponent.{Exponent}
 use Rattle.qz_ring.specs.Terms.{Term}
 use Rattle.qz_ring.specs.contracts.term.TermPartialEq.TheImpl.{eq-value}
 use Rattle.qz_ring.proofs.Order.{same_from_parts}
