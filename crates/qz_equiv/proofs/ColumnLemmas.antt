@@ -12,7 +12,7 @@ use Rattle.qz_circ.specs.Exponent.{zero_exponent, same_exponent}
 use Rattle.qz_circ.specs.Paths.{Path, Ways, count as path_count, total, entry, through, stay, way_if, root2, root2_once}
 use Rattle.qz_ring.specs.Exponent.{Exponent as Monomial, minus, turned, zero_exponent as no_monomial, same_exponent as same_monomial, turn_alone}
 use Rattle.qz_ring.specs.Terms.{Terms, weight_of, largest_reach}
-use Rattle.qz_ring.specs.Shifting.{IsTimesRoot2}
+use Rattle.qz_ring.specs.Counts.{IsTimesRoot2}
 use Rattle.qz_equiv.specs.Entries.{exponent_of, one_way, IsEntry, row, IsColumn, IsLight, gathered, IsNextColumn, IsPlain, scaled_stay, scaled_paths}
 use Rattle.qz_equiv.proofs.Totals.{count-none, count-root2_once, AreProper-root2_once}
 use Rattle.qz_equiv.proofs.GatheredLemmas.{gathered_all}
