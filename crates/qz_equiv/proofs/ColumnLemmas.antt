@@ -12,7 +12,7 @@ use Rattle.qz_circ.specs.Exponent.{zero_exponent, same_exponent}
 use Rattle.qz_circ.specs.Paths.{Path, Ways, count as path_count, total, entry, ways_through, identity_ways, way_if, root2, root2_once}
 use Rattle.qz_ring.specs.Exponent.{Exponent as Monomial, minus, with_turns, zero_exponent as no_monomial, same_exponent as same_monomial, turn_alone}
 use Rattle.qz_ring.specs.Terms.{Terms, weight_of, largest_reach}
-use Rattle.qz_ring.specs.Shifting.{IsTimesRoot2}
+use Rattle.qz_ring.specs.Counts.{IsTimesRoot2}
 use Rattle.qz_equiv.specs.Entries.{exponent_of, one_way, IsEntry, row, IsColumn, IsLight, gathered, IsNextColumn, IsPlain, scaled_stay, scaled_paths}
 use Rattle.qz_equiv.proofs.Totals.{count-none, count-root2_once, AreProper-root2_once}
 use Rattle.qz_equiv.proofs.GatheredLemmas.{gathered_all}
@@ -42,6 +42,7 @@ more_paths : (q h : ℕ) (c : Circuit) (k : ℕ) (d : Op) (j i : ℕ) → k < le
 unfolding ways_through
 more_paths q h c k d j i less = ap (λ (w : Ways). w i j) (fold_more (λ (w : Ways) g. ways_through q w (entry g)) (scaled_stay h) c k d less)
 
+-- a column of the circuit with one gate more
 pub column_step : (q h : ℕ) (c : Circuit) (k : ℕ) (d : Op) (j : ℕ) (old new : List Terms) → q ≤ 3 → IsOn q 0 c → k < length c → IsColumn (2 ^ q) (k + h) (scaled_paths q h (take k c) j) old → IsNextColumn (2 ^ q) (get_or c k d) old new → IsColumn (2 ^ q) (k + 1 + h) (scaled_paths q h (take (k + 1) c) j) new
 column_step q h c k d j old new small on less before next =
     let plain = each_at (IsPlain q) c k d on less in
@@ -50,6 +51,7 @@ column_step q h c k d j old new small on less before next =
     let ways : (λ i. gathered (2 ^ q) (get_or c k d) i (scaled_paths q h (take k c) j)) ≡ scaled_paths q h (take (k + 1) c) j = (λ t i. sym (more_paths q h c k d j i less) t) in
     subst (λ (w : ℕ → List Path). IsColumn (2 ^ q) (k + 1 + h) w new) ways (subst (λ n. IsColumn (2 ^ q) n (λ i. gathered (2 ^ q) (get_or c k d) i (scaled_paths q h (take k c) j)) new) bound after)
 
+-- four tests, grouped from the left or from the right
 regroup : (a b c d : Bool) → (a && (b && (c && d))) ≡ (((a && b) && c) && d)
 regroup true true true d = refl
 regroup true true false d = refl
@@ -89,10 +91,12 @@ entry_root2 n ps old new before times weight reach = record {
   reach = omega (arith, reach, before.reach);
 }
 
+-- one more power of the square root of two, as the definition says
 root2-suc : (h : ℕ) (ps : List Path) → root2 (suc h) ps ≡ root2_once (root2 h ps)
 unfolding root2
 root2-suc h ps = refl
 
+-- one more power of the square root of two, counted
 pub entry_power : (h : ℕ) (ps : List Path) (old new : Terms) → IsEntry h (root2 h ps) old → IsTimesRoot2 old new → weight_of new ≤ 2 * weight_of old → largest_reach new ≤ largest_reach old → IsEntry (h + 1) (root2 (h + 1) ps) new
 entry_power h ps old new before times weight reach =
     let after = entry_root2 h (root2 h ps) old new before times weight reach in
@@ -111,6 +115,7 @@ start_same h i j ts same is =
     let test : (i == j) ≡ true = grind (arith, nat_tests) in
     subst (λ (b : Bool). IsEntry h (root2 h (way_if b (pos 1) zero_exponent)) ts) (sym test) is
 
+-- the start of a column in another row
 pub start_other : (h i j : ℕ) → i ≢ j → IsEntry h (scaled_stay h i j) []
 unfolding identity_ways
 start_other h i j apart =

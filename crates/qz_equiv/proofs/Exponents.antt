@@ -30,12 +30,15 @@ same_like d e d' e' there back = same_from_decides (same_exponent d e) (same_exp
 turn_there : (p r e : ℕ) → p < 512 → r < 512 → e < 512 → (p + r) % 512 ≡ e → p ≡ (e + (512 - r)) % 512
 turn_there p r e hp hr he h = omega arith
 
+-- a difference of turns and the sum that undoes it
 turn_back : (p r e : ℕ) → p < 512 → r < 512 → e < 512 → p ≡ (e + (512 - r)) % 512 → (p + r) % 512 ≡ e
 turn_back p r e hp hr he h = omega arith
 
+-- a sum of powers and the difference that undoes it
 power_there : (p r e : ℤ) → p +ℤ r ≡ e → p ≡ e -ℤ r
 power_there p r e h = omega (arith, ints)
 
+-- a difference of powers and the sum that undoes it
 power_back : (p r e : ℤ) → p ≡ e -ℤ r → p +ℤ r ≡ e
 power_back p r e h = omega (arith, ints)
 
@@ -43,6 +46,7 @@ power_back p r e h = omega (arith, ints)
 pub plus_there : (p r e : Exponent) → IsExponent p → IsExponent r → IsExponent e → plus p r ≡ e → p ≡ minus e r
 plus_there p r e hp hr he h = exponent_eq p (minus e r) (turn_there p.turn r.turn e.turn hp hr he (ap (λ (x : Exponent). x.turn) h)) (power_there p.x0 r.x0 e.x0 (ap (λ (x : Exponent). x.x0) h)) (power_there p.x1 r.x1 e.x1 (ap (λ (x : Exponent). x.x1) h)) (power_there p.x2 r.x2 e.x2 (ap (λ (x : Exponent). x.x2) h))
 
+-- and where p has the exponent of e over r, p times r has that of e
 pub plus_back : (p r e : Exponent) → IsExponent p → IsExponent r → IsExponent e → p ≡ minus e r → plus p r ≡ e
 plus_back p r e hp hr he h = exponent_eq (plus p r) e (turn_back p.turn r.turn e.turn hp hr he (ap (λ (x : Exponent). x.turn) h)) (power_back p.x0 r.x0 e.x0 (ap (λ (x : Exponent). x.x0) h)) (power_back p.x1 r.x1 e.x1 (ap (λ (x : Exponent). x.x1) h)) (power_back p.x2 r.x2 e.x2 (ap (λ (x : Exponent). x.x2) h))
 
@@ -50,6 +54,7 @@ plus_back p r e hp hr he h = exponent_eq (plus p r) e (turn_back p.turn r.turn e
 pub minus_proper : (d e : Exponent) → IsExponent (minus d e)
 minus_proper d e = omega arith
 
+-- a turned exponent has a turn below 512
 pub turned_proper : (e : Exponent) (k : ℕ) → IsExponent (with_turns e k)
 turned_proper e k = omega arith
 

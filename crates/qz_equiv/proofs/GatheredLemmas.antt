@@ -12,8 +12,8 @@ use Rattle.qz_circ.specs.declared.circuit.Expr.{Expr}
 use Rattle.qz_circ.specs.Circuit.{below, ActsBelow}
 use Rattle.qz_circ.specs.Paths.{Path, count as path_count, products, entry}
 use Rattle.qz_ring.specs.Exponent.{Exponent as Monomial, IsExponent as IsMonomial, minus}
-use Rattle.qz_ring.specs.Terms.{Terms, count, weight_of, largest_reach}
-use Rattle.qz_equiv.specs.Entries.{exponent_of, monomial_of, AreProper, one_way, turn_alone, signed, IsEntry, row, IsColumn, gathered, AddsWay, IsGathered, IsLight}
+use Rattle.qz_ring.specs.Terms.{Terms, signed, count, weight_of, largest_reach}
+use Rattle.qz_equiv.specs.Entries.{exponent_of, monomial_of, AreProper, one_way, turn_alone, IsEntry, row, IsColumn, gathered, AddsWay, IsGathered, IsLight}
 use Rattle.qz_equiv.proofs.Starts.{Through, none, one, through_entry}
 use Rattle.qz_equiv.proofs.Totals.{count-none, count-times_one, count-times_none, count-append, AreProper-products, AreProper-append}
 
@@ -22,6 +22,7 @@ pub range_more : (a n : ℕ) → range_with_len a (suc n) ≡ range_with_len a n
 range_more a zero = ap (λ x. x ∷ []) (omega arith)
 range_more a (suc n) = ap (λ xs. a ∷ xs) (range_more (a + 1) n ∙ ap (λ x. range_with_len (a + 1) n ++ x ∷ []) (omega arith))
 
+-- the numbers below one number more
 pub below_more : (n : ℕ) → below (n + 1) ≡ below n ++ n ∷ []
 below_more n = ap below (add-one n) ∙ range_more 0 n ∙ ap (λ x. below n ++ x ∷ []) (omega arith)
 
@@ -33,10 +34,12 @@ flat_map-below f n = ap (flat_map f) (below_more n) ∙ flat_map-append f (below
     append_nil [] = refl
     append_nil (x ∷ xs) = ap (λ ys. x ∷ ys) (append_nil xs)
 
+-- the first of two tests that hold
 and_left : (a b : Bool) → (a && b) ≡ true → a ≡ true
 and_left true b h = refl
 and_left false b h = h
 
+-- the second of two tests that hold
 and_right : (a b : Bool) → (a && b) ≡ true → b ≡ true
 and_right true b h = h
 and_right false b h = cc
@@ -47,6 +50,7 @@ each_from p a zero h k less = absurd (omega arith)
 each_from p a (suc n) h zero less = ap p (omega arith) ∙ and_left (p a) (list_all p (range_with_len (a + 1) n)) h
 each_from p a (suc n) h (suc k) less = ap p (omega arith) ∙ each_from p (a + 1) n (and_right (p a) (list_all p (range_with_len (a + 1) n)) h) k (omega arith)
 
+-- what a test says of each number below n
 each_below : (p : ℕ → Bool) (n : ℕ) → list_all p (below n) ≡ true → (k : ℕ) → k < n → p k ≡ true
 each_below p n h k less = ap p (omega arith) ∙ each_from p 0 n h k less
 
@@ -54,6 +58,7 @@ each_below p n h k less = ap p (omega arith) ∙ each_from p 0 n h k less
 abbrev few : ℕ → Op → Bool
 few q g = list_all (λ i. nat_le (length (flat_map (entry g i) (below (2 ^ q)))) 2) (below (2 ^ q))
 
+-- H: a run over all states and qubits
 few_h : (q : ℕ) → q ≤ 3 → list_all (λ t. few q (H t)) (below q) ≡ true
 unfolding entry
 few_h zero h = refl
@@ -62,6 +67,7 @@ few_h (suc (suc zero)) h = refl
 few_h (suc (suc (suc zero))) h = refl
 few_h (suc (suc (suc (suc q)))) h = absurd (omega arith)
 
+-- X: a run over all states and qubits
 few_x : (q : ℕ) → q ≤ 3 → list_all (λ t. few q (X t)) (below q) ≡ true
 unfolding entry
 few_x zero h = refl
@@ -70,6 +76,7 @@ few_x (suc (suc zero)) h = refl
 few_x (suc (suc (suc zero))) h = refl
 few_x (suc (suc (suc (suc q)))) h = absurd (omega arith)
 
+-- CX: a run over all states and pairs of different qubits
 few_cx : (q : ℕ) → q ≤ 3 → list_all (λ c. list_all (λ t. c == t || few q (Cx c t)) (below q)) (below q) ≡ true
 unfolding entry
 few_cx zero h = refl
@@ -78,6 +85,7 @@ few_cx (suc (suc zero)) h = refl
 few_cx (suc (suc (suc zero))) h = refl
 few_cx (suc (suc (suc (suc q)))) h = absurd (omega arith)
 
+-- a rotation: a run over all states and qubits
 few_rz : (q : ℕ) (e : Expr) → q ≤ 3 → list_all (λ t. few q (Rz t e)) (below q) ≡ true
 unfolding entry
 few_rz zero e h = refl
@@ -86,9 +94,11 @@ few_rz (suc (suc zero)) e h = refl
 few_rz (suc (suc (suc zero))) e h = refl
 few_rz (suc (suc (suc (suc q)))) e h = absurd (omega arith)
 
+-- the test is of different numbers
 different : (c t : ℕ) (b : Bool) → c ≢ t → (c == t || b) ≡ true → b ≡ true
 different c t b apart h = grind (arith, nat_tests)
 
+-- any gate
 few_through : (q : ℕ) (g : Op) → q ≤ 3 → ActsBelow q g → few q g ≡ true
 few_through q (H t) h on = each_below (λ t. few q (H t)) q (few_h q h) t on
 few_through q (X t) h on = each_below (λ t. few q (X t)) q (few_x q h) t on
@@ -97,6 +107,7 @@ few_through q (Cx c t) h on =
     different c t (few q (Cx c t)) on.2 (each_below (λ t. c == t || few q (Cx c t)) q targets t on.1)
 few_through q (Rz t e) h on = each_below (λ t. few q (Rz t e)) q (few_rz q e h) t on
 
+-- at most two ways through a gate lead to a state
 pub few_ways : (q : ℕ) (g : Op) (i : ℕ) → q ≤ 3 → ActsBelow q g → i < 2 ^ q → length (flat_map (entry g i) (below (2 ^ q))) ≤ 2
 few_ways q g i h on less =
     let told = each_below (λ i. nat_le (length (flat_map (entry g i) (below (2 ^ q)))) 2) (2 ^ q) (few_through q g h on) i less in
@@ -107,6 +118,7 @@ few_here : (ps : List Path) → Through ps → length ps ≤ 1
 few_here ps (none h) = omega (arith, ap length h)
 few_here ps (one b x h) = omega (arith, ap length h)
 
+-- at most as many ways as there are places
 pub few_before : (g : Op) (i k : ℕ) → length (flat_map (entry g i) (below k)) ≤ k
 few_before g i zero = omega arith
 few_before g i (suc k) =
@@ -162,6 +174,7 @@ adds_none part old = record {
   reach = omega arith;
 }
 
+-- a part that is zero adds nothing
 pub adds_zero : (negated : Bool) (turn : ℕ) (part old : Terms) → turn < 512 → part ≡ [] → AddsWay part (one_way negated (turn_alone turn)) old old
 adds_zero negated turn part old small zero_part = record {
   counts = λ ps proper h e he.
@@ -176,6 +189,7 @@ adds_zero negated turn part old small zero_part = record {
     plus_nothing true x h = omega (arith, ints)
     plus_nothing false x h = omega (arith, ints)
 
+-- a part times a power of ζ, or less it
 pub adds_one : (negated : Bool) (turn : ℕ) (part old new : Terms) → turn < 512 → ((e : Monomial) → IsMonomial e → count new e ≡ count old e +ℤ signed negated (count part (minus e (monomial_of (turn_alone turn))))) → weight_of new ≤ weight_of old + weight_of part → largest_reach new ≤ max (largest_reach old) (largest_reach part) → AddsWay part (one_way negated (turn_alone turn)) old new
 adds_one negated turn part old new small counts weight reach = record {
   counts = λ ps proper h e he.

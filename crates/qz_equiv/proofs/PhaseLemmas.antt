@@ -49,16 +49,20 @@ pub record HasTerm (ts : Terms) (e : Monomial) : Type 0 where
   pub within : place < length ts
   pub exponent : term.exponent ≡ e
 
+-- a term stands one place later behind one more
 term_before : (t : Term) (ts : Terms) (e : Monomial) → HasTerm ts e → HasTerm (t ∷ ts) e
 term_before t ts e h = record { place = suc h.place; term = h.term; there = h.there; within = omega (arith, h.within); exponent = h.exponent }
 
+-- a term with another exponent adds nothing
 no_part : (t : Term) (ts : Terms) (e : Monomial) → same_exponent t.exponent e ≡ false → coefficient_at ts e ≡ pos 0 → coefficient_at (t ∷ ts) e ≡ pos 0
 no_part t ts e is none = rw is (omega (arith, ints))
 
+-- one term more, which has the exponent or not
 one_more : (t : Term) (ts : Terms) (e : Monomial) (b : Bool) → same_exponent t.exponent e ≡ b → (coefficient_at ts e ≡ pos 0) ⊎ HasTerm ts e → (coefficient_at (t ∷ ts) e ≡ pos 0) ⊎ HasTerm (t ∷ ts) e
 one_more t ts e true is rest = inr (record { place = 0; term = t; there = refl; within = omega arith; exponent = (same_exponent-decides t.exponent e).0 is })
 one_more t ts e false is rest = ⊎_elim (λ none. inl (no_part t ts e is none)) (λ some. inr (term_before t ts e some)) rest
 
+-- a coefficient is 0, or some term has the exponent
 coefficient_none_or_some : (ts : Terms) (e : Monomial) → (coefficient_at ts e ≡ pos 0) ⊎ HasTerm ts e
 coefficient_none_or_some [] e = inl refl
 coefficient_none_or_some (t ∷ ts) e = one_more t ts e (same_exponent t.exponent e) refl (coefficient_none_or_some ts e)
@@ -78,6 +82,7 @@ counted_term ts e counted =
 minus_twice : (e u : Monomial) → IsMonomial e → IsMonomial u → minus e (minus e u) ≡ u
 minus_twice e u he hu = same_from_parts (minus e (minus e u)) u (omega arith) (omega (arith, ints)) (omega (arith, ints)) (omega (arith, ints))
 
+-- the same, through half a turn more and back
 minus_turned : (e u : Monomial) → IsMonomial e → IsMonomial u → with_turns (minus e (with_turns (minus e u) 256)) 256 ≡ u
 minus_turned e u he hu = same_from_parts (with_turns (minus e (with_turns (minus e u) 256)) 256) u (omega arith) (omega (arith, ints)) (omega (arith, ints)) (omega (arith, ints))
 
@@ -143,6 +148,7 @@ candidate_fails lead by x y other k t same by_is there fails told u also h =
 pub found_phase : (x y : List (List Terms)) → HasPhase x y → (IsTrue true ↔ HasPhase x y)
 found_phase x y h = (λ _. h, λ _. refl)
 
+-- the answer of a search that found no phase
 pub found_none : (x y : List (List Terms)) → (HasPhase x y → ⊥) → (IsTrue false ↔ HasPhase x y)
 found_none x y h = (λ t. absurd (clash t), λ phase. absurd (h phase))
   where

@@ -18,10 +18,12 @@ pub data Through (ps : List Path) : Type 0 where
   none : ps ≡ [] → Through ps
   one : (b : Bool) (x : Exponent) → ps ≡ one_way b x → Through ps
 
+-- one way where a test holds
 through_if : (t b : Bool) (x : Exponent) → Through (way_if t (sign_of b) x)
 through_if true b x = one b x refl
 through_if false b x = none refl
 
+-- one way of H where a test holds
 through_h : (t s : Bool) (x : Exponent) → Through (way_if t (if s then negsuc 0 else pos 1) x)
 through_h t true x = through_if t true x
 through_h t false x = through_if t false x
@@ -52,6 +54,7 @@ products-none (p ∷ ps) = products-none ps
 turn_first : (p : Exponent) (k : ℕ) (x : Exponent) → with_turns (plus p x) k ≡ plus (with_turns p k) x
 turn_first p k x = exponent_eq (with_turns (plus p x) k) (plus (with_turns p k) x) (omega arith) refl refl refl
 
+-- a sign that is negated before or after another one
 negate_first : (b : Bool) (z : ℤ) → neg_ℤ (z *ℤ sign_of b) ≡ neg_ℤ z *ℤ sign_of b
 negate_first true z = omega (arith, ints)
 negate_first false z = omega (arith, ints)
@@ -67,10 +70,12 @@ root2_once-products_one b x (p ∷ ps) =
     let sign = negate_first b p.sign in
     (λ i. record { sign = p.sign *ℤ sign_of b; exponent = first i } ∷ record { sign = sign i; exponent = second i } ∷ rest i)
 
+-- no way, times the square root of two
 root2_once-none : root2_once [] ≡ []
 unfolding root2_once
 root2_once-none = refl
 
+-- times the square root of two, before the ways through a gate or after them
 root2_once-products : (ps rs : List Path) → Through rs → root2_once (products ps rs) ≡ products (root2_once ps) rs
 root2_once-products ps rs (none h) = ap (λ rs. root2_once (products ps rs)) h ∙ ap root2_once (products-none ps) ∙ root2_once-none ∙ sym (products-none (root2_once ps)) ∙ sym (ap (products (root2_once ps)) h)
 root2_once-products ps rs (one b x h) = ap (λ rs. root2_once (products ps rs)) h ∙ root2_once-products_one b x ps ∙ sym (ap (products (root2_once ps)) h)
@@ -90,10 +95,12 @@ root2_once-pieces w g i j ks =
     spread (λ k. products (w k j) (entry g i k)) ks ∙
     flat_map_same (λ k. root2_once (products (w k j) (entry g i k))) (λ k. products (root2_once (w k j)) (entry g i k)) (λ k. root2_once-products (w k j) (entry g i k) (through_entry g i k)) ks
 
+-- the same, over each state between
 root2_once-ways_through : (q : ℕ) (w : Ways) (g : Op) (i j : ℕ) → root2_once (ways_through q w (entry g) i j) ≡ ways_through q (λ i j. root2_once (w i j)) (entry g) i j
 unfolding ways_through
 root2_once-ways_through q w g i j = root2_once-pieces w g i j (below (2 ^ q))
 
+-- times the square root of two, before all gates or after them
 root2_once-paths_from : (q : ℕ) (w : Ways) (c : Circuit) (i j : ℕ) → root2_once (paths_from q w c i j) ≡ paths_from q (λ i j. root2_once (w i j)) c i j
 root2_once-paths_from q w [] i j = refl
 root2_once-paths_from q w (g ∷ c) i j =

@@ -4,9 +4,12 @@ use Rattle.std.specs.Prelude.{ℤ, pos, ◌+ℤ◌, ◌-ℤ◌, ◌*ℤ◌, neg_
 use Rattle.std.proofs.lemmas.Int.{ints}
 use Rattle.qz_circ.specs.Exponent.{Exponent, IsExponent, plus, minus, with_turns, same_exponent, turn_of}
 use Rattle.qz_circ.specs.Paths.{Path, total, count, times, products, root2_once}
-use Rattle.qz_equiv.specs.Entries.{AreProper, signed, sign_of, one_way}
+use Rattle.qz_ring.specs.Terms.{signed}
+use Rattle.qz_ring.proofs.Numbers.{signed-add}
+use Rattle.qz_equiv.specs.Entries.{AreProper, sign_of, one_way}
 use Rattle.qz_equiv.proofs.Exponents.{same_like, plus_there, plus_back, turned_proper, with_turns-minus, exponent_eq}
 
+-- proper ways end to end are proper
 pub AreProper-append : (ps rs : List Path) → AreProper ps → AreProper rs → AreProper (ps ++ rs)
 AreProper-append [] rs h k = k
 AreProper-append (p ∷ ps) rs h k = (h.0, AreProper-append ps rs h.1 k)
@@ -16,10 +19,7 @@ pub times-sign : (b : Bool) (z : ℤ) → z *ℤ sign_of b ≡ signed b z
 times-sign true z = omega (arith, ints)
 times-sign false z = omega (arith, ints)
 
-pub signed-add : (b : Bool) (y z : ℤ) → signed b (y +ℤ z) ≡ signed b y +ℤ signed b z
-signed-add true y z = omega (arith, ints)
-signed-add false y z = refl
-
+-- a sign goes over a difference
 pub signed-sub : (b : Bool) (y z : ℤ) → signed b (y -ℤ z) ≡ signed b y -ℤ signed b z
 signed-sub true y z = omega (arith, ints)
 signed-sub false y z = refl
@@ -30,10 +30,12 @@ unfolding total
 total-append [] rs e = omega (arith, ints)
 total-append (p ∷ ps) rs e = let rest = total-append ps rs e in omega (arith, ints)
 
+-- no way counts nothing
 pub count-none : (e : Exponent) → count [] e ≡ pos 0
 unfolding count total
 count-none e = refl
 
+-- ways end to end count both
 pub count-append : (ps rs : List Path) (e : Exponent) → count (ps ++ rs) e ≡ count ps e +ℤ count rs e
 unfolding count
 count-append ps rs e = let here = total-append ps rs e in let half = total-append ps rs (with_turns e 256) in omega (arith, ints)
@@ -58,6 +60,7 @@ part_times b p x e hp hx he =
     picked true s false = refl
     picked false s false = refl
 
+-- the signs of ways times one way
 pub total-times_one : (b : Bool) (x : Exponent) (ps : List Path) (e : Exponent) → AreProper ps → IsExponent x → IsExponent e → total (products ps (one_way b x)) e ≡ signed b (total ps (minus e x))
 unfolding total
 total-times_one true x [] e hp hx he = refl
@@ -68,6 +71,7 @@ total-times_one b x (p ∷ ps) e hp hx he =
     let both = signed-add b (if same_exponent p.exponent (minus e x) then p.sign else pos 0) (total ps (minus e x)) in
     (λ i. here i +ℤ rest i) ∙ sym both
 
+-- ways times none have no signs
 pub total-times_none : (ps : List Path) (e : Exponent) → total (products ps []) e ≡ pos 0
 unfolding total
 total-times_none [] e = refl
@@ -81,6 +85,7 @@ count-times_one b x ps e hp hx he =
     let half = total-times_one b x ps (with_turns e 256) hp hx (turned_proper e 256) ∙ ap (λ y. signed b (total ps y)) (with_turns-minus e x 256) in
     (λ i. here i -ℤ half i) ∙ sym (signed-sub b (total ps (minus e x)) (total ps (with_turns (minus e x) 256)))
 
+-- ways times none count nothing
 pub count-times_none : (ps : List Path) (e : Exponent) → count (products ps []) e ≡ pos 0
 unfolding count
 count-times_none ps e = let here = total-times_none ps e in let half = total-times_none ps (with_turns e 256) in omega (arith, ints)
@@ -122,6 +127,7 @@ total-root2_once (p ∷ ps) e hp he =
     let second = part_turned (neg_ℤ p.sign) p.exponent 192 e hp.0 he ∙ part_negated p.sign (same_exponent p.exponent (minus e (turn_of 192))) in
     added _ _ _ _ _ _ _ rest first second
 
+-- ways times the square root of two count as two turned ways do, one less the other
 pub count-root2_once : (ps : List Path) (e : Exponent) → AreProper ps → IsExponent e → count (root2_once ps) e ≡ count ps (minus e (turn_of 64)) -ℤ count ps (minus e (turn_of 192))
 unfolding count
 count-root2_once ps e hp he =

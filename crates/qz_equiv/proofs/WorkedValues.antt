@@ -15,6 +15,7 @@ use Rattle.qz_equiv.proofs.Totals.{count-times_one}
 abbrev flip_first : Circuit
 flip_first = X 0 ∷ Rz 0 (Plus 0) ∷ []
 
+-- a turn by the negative of the parameter and then a flip
 abbrev flip_last : Circuit
 flip_last = Rz 0 (Minus 0) ∷ X 0 ∷ []
 

@@ -1,5 +1,5 @@
 -- Sums of monomials that have the counts of path sums: as entries, columns and matrices.
-use Rattle.std.specs.Prelude.{◌≡◌, ℕ, ◌+◌, ◌*◌, ◌^◌, ◌<◌, ◌≤◌, max, Bool, true, false, Option, Some, None, List, [], ◌∷◌, length, slice_index_or, fold, ℤ, pos, negsuc, neg_ℤ, ◌+ℤ◌}
+use Rattle.std.specs.Prelude.{◌≡◌, ℕ, ◌+◌, ◌*◌, ◌^◌, ◌<◌, ◌≤◌, max, Bool, true, false, Option, Some, None, List, [], ◌∷◌, length, slice_index_or, fold, ℤ, pos, negsuc, ◌+ℤ◌}
 use Rattle.std.specs.List.{flat_map, AllByRecursion}
 use Rattle.qz_circ.specs.declared.circuit.Op.{Op}
 use Rattle.qz_circ.specs.Circuit.{Circuit, below, ActsBelow, HasBelow}
@@ -15,11 +15,6 @@ exponent_of m = record { turn = m.turn; x0 = m.x0; x1 = m.x1; x2 = m.x2 }
 -- the exponent of a path sum as a monomial
 abbrev pub monomial_of : Exponent → Monomial
 monomial_of e = record { turn = e.turn; x0 = e.x0; x1 = e.x1; x2 = e.x2 }
-
--- the number, with the other sign where it is negated
-abbrev pub signed : Bool → ℤ → ℤ
-signed true z = neg_ℤ z
-signed false z = z
 
 -- the sign of a way: -1 where it is negated, and else 1
 abbrev pub sign_of : Bool → ℤ

@@ -2,17 +2,14 @@
 use Rattle.std.specs.Prelude.{◌≡◌, ◌≢◌, ℕ, ◌<◌, ◌≤◌, ◌⊎◌, List, [], length, pos, Some, slice_get}
 use Rattle.qz_ring.specs.Exponent.{Exponent as Monomial, IsExponent as IsMonomial, minus, with_turns, reach_of}
 use Rattle.qz_ring.specs.Terms.{Term, Terms, count, largest_reach}
+use Rattle.qz_ring.specs.Counts.{IsTimesMonomial}
 use Rattle.qz_equiv.specs.Entries.{row, column}
 
--- x has the counts of the monomial times y
-abbrev pub IsShift : Monomial → Terms → Terms → Type 0
-IsShift by x y = (e : Monomial) → IsMonomial e → count x e ≡ count y (minus e by)
-
--- each entry of x has the counts of the monomial times that of y
+-- each entry of x is the monomial times that of y
 abbrev pub IsColumnShift : Monomial → List Terms → List Terms → Type 0
-IsColumnShift by x y = (i : ℕ) → i < length x → IsShift by (row x i) (row y i)
+IsColumnShift by x y = (i : ℕ) → i < length x → IsTimesMonomial by (row y i) (row x i)
 
--- each column of x has the counts of the monomial times that of y
+-- each column of x is the monomial times that of y
 abbrev pub IsMatrixShift : Monomial → List (List Terms) → List (List Terms) → Type 0
 IsMatrixShift by x y = (j : ℕ) → j < length x → IsColumnShift by (column x j) (column y j)
 

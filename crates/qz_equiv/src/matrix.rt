@@ -4,8 +4,8 @@ ghost use Rattle.qz_circ.specs.Circuit.{IsOn};
 ghost use Rattle.qz_circ.specs.Exponent.{zero_exponent};
 ghost use Rattle.qz_circ.specs.Paths.{root2};
 ghost use Rattle.qz_ring.specs.Exponent.{Exponent as Monomial, IsExponent as IsMonomial, minus, turn_alone};
-ghost use Rattle.qz_ring.specs.Terms.{count, weight_of, largest_reach};
-ghost use Rattle.qz_equiv.specs.Entries.{signed, one_way, ways_of, row, column as column_of, paths_from, scaled_stay, scaled_paths, IsEntry, IsColumn, IsMatrix, IsLight, IsPlain, AddsWay, IsGathered, IsNextColumn};
+ghost use Rattle.qz_ring.specs.Terms.{signed, count, weight_of, largest_reach};
+ghost use Rattle.qz_equiv.specs.Entries.{one_way, ways_of, row, column as column_of, paths_from, scaled_stay, scaled_paths, IsEntry, IsColumn, IsMatrix, IsLight, IsPlain, AddsWay, IsGathered, IsNextColumn};
 
 use crate::gate_way::way;
 use qz_circ::Op;

@@ -2,8 +2,9 @@
 ghost use Rattle.std.specs.Prelude.{◌≡◌, ◌≢◌, ◌↔◌, ◌+◌, ◌<◌, ◌≤◌, ◌⊎◌, ℕ, pos, [], length, IsTrue, IfOk, MatchOption};
 ghost use Rattle.qz_ring.specs.Exponent.{Exponent as Monomial, IsExponent as IsMonomial, minus, with_turns, reach_of};
 ghost use Rattle.qz_ring.specs.Terms.{count, largest_reach};
+ghost use Rattle.qz_ring.specs.Counts.{IsTimesMonomial};
 ghost use Rattle.qz_equiv.specs.Entries.{row, column};
-ghost use Rattle.qz_equiv.specs.Phases.{IsShift, IsColumnShift, IsMatrixShift, HasPhase, IsLead, IsZeroColumn, IsPivotOfColumn, IsZeroMatrix, IsPivot, IsLow, AreLow, SameShape};
+ghost use Rattle.qz_equiv.specs.Phases.{IsColumnShift, IsMatrixShift, HasPhase, IsLead, IsZeroColumn, IsPivotOfColumn, IsZeroMatrix, IsPivot, IsLow, AreLow, SameShape};
 
 use crate::matrix::{Column, Matrix};
 use qz_ring::{Elem, Exponent, Memory};
@@ -13,7 +14,7 @@ use qz_ring::{Elem, Exponent, Memory};
 fn same_entry(x: &Elem, y: &Elem, by: Exponent) -> Result<bool, Memory>
     requires low { largest_reach y.now ≤ 100 }
     requires reach { reach_of by ≤ 200 }
-    ensures { IfOk result (λ same. IsTrue same ↔ IsShift by x.now y.now) }
+    ensures { IfOk result (λ same. IsTrue same ↔ IsTimesMonomial by y.now x.now) }
 {
     let mut shifted = y.copy()?;
     shifted.shift(by);

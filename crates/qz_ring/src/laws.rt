@@ -1,7 +1,7 @@
 //! Laws of the definitions, each the contract of a function with an empty body.
 
 ghost use Rattle.std.specs.Prelude.{◌≡◌, ◌+◌, ◌≤◌, neg_ℤ};
-ghost use Rattle.qz_ring.specs.Exponent.{Exponent as Monomial, IsExponent, turned, reach_of};
+ghost use Rattle.qz_ring.specs.Exponent.{Exponent as Monomial, IsExponent, with_turns, reach_of};
 ghost use Rattle.qz_ring.specs.Terms.{Terms, count, largest_reach, reach_times, IsCanonical};
 ghost use Rattle.qz_ring.specs.Counts.{SameCounts, IsSum, IsTimesRoot2};
 
@@ -12,7 +12,7 @@ pub fn counts_determine_terms()
 
 /// Half a turn further, every count has the other sign.
 pub fn half_turn_changes_sign()
-    ensures { (a : Terms) (e : Monomial) → IsExponent e → count a (turned e 256) ≡ neg_ℤ (count a e) }
+    ensures { (a : Terms) (e : Monomial) → IsExponent e → count a (with_turns e 256) ≡ neg_ℤ (count a e) }
 {}
 
 /// The powers of products are at most as large as the largest power and the monomial's together.

@@ -5,7 +5,7 @@ use borrow.Author.Count.{below_more}
 use Rattle.qz_equiv.proofs.phase.has_candidate.Goals as goal
 
 pub quotient_of-requires-clause-second : goal.quotient_of-requires-clause-second
-quotient_of-requires-clause-second c = omega (arith, reach_at c.args.other.now c.loop-k.k _ c.term-term.ensures, c.requires.other_low)
+quotient_of-requires-clause-second c = omega (arith, reach_at c.args.other.now c.loop-k.k _ c.term-term.ensures.value, c.requires.other_low)
 
 pub returns-then-branch : goal.returns-then-branch
 returns-then-branch c =
@@ -13,7 +13,7 @@ returns-then-branch c =
     found_phase c.args.x.now c.args.y.now (candidate_phase c.quotient_of.result c.args.x.now c.args.y.now proper (c.in_ok-same_either_way.ensures.0 c.if-branch.true))
 
 pub loop-k-preserved : goal.loop-k-preserved
-loop-k-preserved c = below_more _ _ c.loop-k.invariant (candidate_fails c.args.lead c.quotient_of.result c.args.x.now c.args.y.now c.args.other.now c.loop-k.k _ c.in_ok-same_either_way.field-0 c.quotient_of.ensures.value c.term-term.ensures c.if-branch.false c.in_ok-same_either_way.ensures)
+loop-k-preserved c = below_more _ _ c.loop-k.invariant (candidate_fails c.args.lead c.quotient_of.result c.args.x.now c.args.y.now c.args.other.now c.loop-k.k _ c.in_ok-same_either_way.field-0 c.quotient_of.ensures.value c.term-term.ensures.value c.if-branch.false c.in_ok-same_either_way.ensures)
 
 pub returns : goal.returns
 returns c = found_none c.args.x.now c.args.y.now (no_phase c.args.lead c.args.x.now c.args.y.now c.args.other.now c.requires.lead_proper c.requires.counted (λ k less. c.loop-k.invariant k (omega (arith, less))))
