@@ -22,5 +22,6 @@ stops_from at (stop ∷ stops) rising first =
     let later : IsStrictlyIncreasing stops = λ k below. let next : suc k + 1 ≡ suc (k + 1) = omega arith in rw next at (rising (suc k) (omega arith)) in
     (first (omega arith), stops_from (suc stop) stops later (λ some. omega (arith, rising 0 (omega arith))))
 
+-- rising stops are stops from the start on
 pub stops_from_start : (stops : List ℕ) → IsStrictlyIncreasing stops → AreStopsFrom 0 stops
 stops_from_start stops rising = stops_from 0 stops rising (λ some. omega arith)

@@ -34,6 +34,7 @@ taken_more xs i x h =
     let within : i < length xs = slice_get_within xs i x h in
     rw add-one (take-suc xs i x within ∙ ap (λ y. take i xs ++ y ∷ []) (get_or_from_slice_get xs i x x h))
 
+-- the text of one class more behind those before it
 pub class_appended : (f : List ℕ → List ℕ) (classes : List (List ℕ)) (members : List ℕ) (i : ℕ) (o a n : List ℕ) → slice_get classes i ≡ Some members → a ≡ o ++ flat_map f (take i classes) → n ≡ a ++ f members → n ≡ o ++ flat_map f (take (i + 1) classes)
 class_appended f classes members i o a n h before now =
     rw (now, before, taken_more classes i members h) (flat_map_more f o (take i classes) members)
