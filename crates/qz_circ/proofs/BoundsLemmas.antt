@@ -13,6 +13,7 @@ pub record InRange (b : Limits) : Type 0 where
   pub params : b.m ≤ 3
   pub circuits : gate_count b ^ b.n ≤ 8000000
 
+-- how many gates there are, in numbers
 pub gate_count_is : (n q m : ℕ) → q ≤ 3 → m ≤ 3 → gate_count (record { n = n; q = q; m = m }) ≡ q * (1 + q + (7 + 2 * m + m * (m - 1) / 2))
 unfolding gate_count gates_of angles
 gate_count_is n zero zero h k = refl
@@ -34,13 +35,10 @@ gate_count_is n (suc (suc (suc zero))) (suc (suc (suc zero))) h k = refl
 gate_count_is n (suc (suc (suc (suc q)))) m h k = absurd (omega arith)
 gate_count_is n q (suc (suc (suc (suc m)))) h k = absurd (omega arith)
 
+-- lawful limits are in range
 pub in_range : (b : Limits) → IsLawful b → InRange b
 unfolding refusal
 in_range b h = grind (arith, nat_tests)
-
-pub lawful_from_range : (b : Limits) → InRange b → IsLawful b
-unfolding refusal
-lawful_from_range b h = grind (arith, nat_tests)
 
 -- there are at least nine gates
 pub nine_gates : (b : Limits) → InRange b → 9 ≤ gate_count b

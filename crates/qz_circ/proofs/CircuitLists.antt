@@ -26,6 +26,7 @@ abbrev pub shorter : ℕ → ℕ → ℕ
 shorter gates zero = 0
 shorter gates (suc k) = shorter gates k + gates ^ k
 
+-- how many circuits there are of the lengths from one on, beside the shorter ones
 length_of_lengths : (gates : List Op) (from k : ℕ) → length (flat_map (circuits_of gates) (range_with_len from k)) + shorter (length gates) from ≡ shorter (length gates) (from + k)
 length_of_lengths gates from zero = grind arith
 length_of_lengths gates from (suc k) =

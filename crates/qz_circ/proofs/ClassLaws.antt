@@ -16,12 +16,15 @@ pub contains_cases : {A : Type 0} (x : A) (xs : List A) (r : A) → Contains (x 
 contains_cases x xs r (zero, in_range, same) = inl same
 contains_cases x xs r (suc k, in_range, same) = inr (k, omega arith, same)
 
+-- the first element is one
 pub contains_first : {A : Type 0} (x : A) (xs : List A) → Contains (x ∷ xs) x
 contains_first x xs = (zero, omega arith, refl)
 
+-- an element of the rest is one
 pub contains_rest : {A : Type 0} (x : A) (xs : List A) (r : A) → Contains xs r → Contains (x ∷ xs) r
 contains_rest x xs r (k, in_range, same) = (suc k, omega arith, same)
 
+-- the rest of a rising list rises
 rises_tail : (x : ℕ) (xs : List ℕ) → Rises (x ∷ xs) → Rises xs
 rises_tail x xs rises i j d before in_range = rises (suc i) (suc j) d (omega arith) (omega arith)
 
@@ -71,6 +74,7 @@ lists_same P (r ∷ rs) (x ∷ xs) (y ∷ ys) hx hy =
     let rest = lists_same P rs xs ys hx.1 hy.1 in
     λ i. first i ∷ rest i
 
+-- two class lists of the same limits are the same
 pub class_list_same : (b : Limits) (k l : List (List ℕ)) → IsClassList b k → IsClassList b l → k ≡ l
 class_list_same b k l hk hl =
     let representatives = lists_exactly_same (IsRepresentativeRank b) hk.representatives hl.representatives hk.each_representative hl.each_representative in

@@ -66,10 +66,6 @@ minus-zero e h = exponent_eq (minus e zero_exponent) e (omega arith) (omega (ari
 pub with_turns-minus : (e r : Exponent) (k : ℕ) → minus (with_turns e k) r ≡ with_turns (minus e r) k
 with_turns-minus e r k = exponent_eq (minus (with_turns e k) r) (with_turns (minus e r) k) (omega arith) refl refl refl
 
--- two half turns are none
-pub half_twice : (e : Exponent) → IsExponent e → with_turns (with_turns e 256) 256 ≡ e
-half_twice e h = exponent_eq (with_turns (with_turns e 256) 256) e (omega arith) refl refl refl
-
 -- to take away the inverse and then the exponent itself changes nothing
 pub minus_undone : (e u : Exponent) → IsExponent e → IsExponent u → minus (minus e (minus zero_exponent u)) u ≡ e
 minus_undone e u he hu = exponent_eq (minus (minus e (minus zero_exponent u)) u) e (omega arith) (omega (arith, ints)) (omega (arith, ints)) (omega (arith, ints))

@@ -26,12 +26,15 @@ module _ (b : Limits) (ranks : RanksAreOrder b) where
   pub representative_below : (r : ℕ) → IsRepresentativeRank b r → r < length (all_circuits b)
   representative_below r h = subst (λ x. x < length (all_circuits b)) h.ranked (ranks.below h.circuit h.representative.within)
 
+  -- the circuit at the rank of a circuit is this circuit
   circuit_is : (r : ℕ) (c : Circuit) → Within b c → rank b c ≡ r → circuit_at b r ≡ c
   circuit_is r c within ranked = ap (circuit_at b) (sym ranked) ∙ ranks.at_rank c within
 
+  -- the circuit at the rank of a representative is one
   pub representative_at : (r : ℕ) → IsRepresentativeRank b r → IsRepresentative b (circuit_at b r)
   representative_at r h = subst (IsRepresentative b) (sym (circuit_is r h.circuit h.representative.within h.ranked)) h.representative
 
+  -- and a representative there makes its rank one
   pub representative_from : (r : ℕ) → r < length (all_circuits b) → IsRepresentative b (circuit_at b r) → IsRepresentativeRank b r
   representative_from r below h = record { circuit = circuit_at b r; representative = h; ranked = ranks.rank_at r below }
 
@@ -44,6 +47,7 @@ module _ (b : Limits) (ranks : RanksAreOrder b) where
         none (rank b d) lower (subst (λ x. Equivalent b.q x (circuit_at b r)) (sym (ranks.at_rank d within)) same);
   })
 
+  -- an equivalent circuit with a lower rank makes it none
   pub is_no_representative : (s r : ℕ) → s < r → r < length (all_circuits b) → Equivalent b.q (circuit_at b s) (circuit_at b r) → IsRepresentativeRank b r → ⊥
   is_no_representative s r lower below same h =
       let lower_ranks : rank b (circuit_at b s) < rank b (circuit_at b r) = omega (arith, lower, ranks.rank_at s (omega arith), ranks.rank_at r below) in
@@ -54,15 +58,18 @@ module _ (b : Limits) (ranks : RanksAreOrder b) where
   pub member_below : (r s : ℕ) → IsMemberRank b r s → s < length (all_circuits b)
   member_below r s h = subst (λ x. x < length (all_circuits b)) h.ranked (ranks.below h.member h.kept.within)
 
+  -- the circuit at the rank of a member is kept
   pub member_kept : (r s : ℕ) → IsMemberRank b r s → IsKept b (circuit_at b s)
   member_kept r s h = subst (IsKept b) (sym (circuit_is s h.member h.kept.within h.ranked)) h.kept
 
+  -- and equivalent to that of the representative
   pub member_equivalent : (r s : ℕ) → IsMemberRank b r s → Equivalent b.q (circuit_at b s) (circuit_at b r)
   member_equivalent r s h =
       let member = circuit_is s h.member h.kept.within h.ranked in
       let circuit = circuit_is r h.representative.circuit h.representative.representative.within h.representative.ranked in
       subst (λ x. Equivalent b.q (circuit_at b s) x) (sym circuit) (subst (λ x. Equivalent b.q x h.representative.circuit) (sym member) h.equivalent)
 
+  -- a kept circuit that is equivalent to a representative makes its rank a member
   pub member_from : (r s : ℕ) → s < length (all_circuits b) → IsRepresentativeRank b r → IsKept b (circuit_at b s) → Equivalent b.q (circuit_at b s) (circuit_at b r) → IsMemberRank b r s
   member_from r s below h kept same = record {
     representative = h;

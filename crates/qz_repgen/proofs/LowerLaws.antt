@@ -8,6 +8,7 @@ use Rattle.qz_circ.proofs.GateNumbers.{circuit_below}
 use Rattle.qz_circ.proofs.RankLemmas.{circuit_at-rank, rank_listed, rank-circuit_at, before_by_rank}
 use Rattle.qz_repgen.proofs.Generation.{RanksAreOrder}
 
+-- ranks are places in the order of the circuits within lawful limits
 pub ranks_are_order : (b : Limits) → IsLawful b → RanksAreOrder b
 ranks_are_order b h = record {
   at_rank = circuit_at-rank b h;
@@ -18,11 +19,14 @@ ranks_are_order b h = record {
   rises_only = λ c d wc wd lower. (before_by_rank b h c d wc wd).1 lower;
 }
 
+-- a circuit within limits is on their qubits and has their parameters
 pub is_on_from_within : (b : Limits) → IsLawful b → (c : Circuit) → Within b c → IsOn b.q b.m c
 is_on_from_within b h c w = circuit_below b c w.gates
 
+-- without its first gate it is within them
 pub first_within : (b : Limits) (c : Circuit) → Within b c → Within b (without_first c)
 first_within b c w = within-drop b 1 c w
 
+-- and without its last
 pub last_within : (b : Limits) (c : Circuit) → Within b c → Within b (without_last c)
 last_within b c w = within-take b (length c - 1) c w

@@ -28,6 +28,7 @@ module _ (b : Limits) (lawful : IsLawful b) (r : ℕ) (below : r < length (all_c
       by false is = subst (AllByRecursion (λ c. ListsBelow (r + 1) (IsMemberRank b c.representative) c.members.items)) (sym (stays is))
           (not_joined b (ranks_are_order b lawful) (reflexive b.q) (symmetric b.q) r below (λ h. false≢true (sym is ∙ kept_is.1 h)) old covers.members)
 
+  -- the representatives are those below r
   representatives_stay : ListsBelow r (IsRepresentativeRank b) (representatives_of new)
   representatives_stay = by kept refl
     where

@@ -157,20 +157,6 @@ keeps_signs n = record {
   order = λ t u p q first second before. before;
 }
 
--- before anything is moved
-pub merge_none : (n : Bool) (left right : Terms) → IsCanonical left → IsCanonical right → IsMerging n left right [] left right
-merge_none n left right first second = record {
-  canonical_left = first;
-  canonical_right = second;
-  coefficients = λ e. ap (λ (z : ℤ). z +ℤ signed n (coefficient_at right e)) (none_with (coefficient_at left e));
-  weight = omega arith;
-  reach = omega arith;
-  length = omega arith;
-}
-  where
-    none_with : (z : ℤ) → pos 0 +ℤ z ≡ z
-    none_with z = omega (arith, ints)
-
 -- once one side is used up, the rest of the other makes up the whole
 pub merge_all : (n : Bool) (left right out xs ys : Terms) → IsMerging n left right out xs ys → (xs ≡ []) ⊎ (ys ≡ []) → IsMerged n left right ((out ++ xs) ++ map (signed_term n) ys)
 merge_all n left right out xs ys m used_up =
