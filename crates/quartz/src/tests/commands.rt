@@ -11,7 +11,8 @@ use std::io;
 use std::test::Fail;
 
 // The rules of the identities of at most two gates on one qubit.
-const TWO_GATES: &str = "quartz-rules 1\n\
+fn two_gates() -> &'static str {
+    "quartz-rules 1\n\
 bounds 2 1 0\n\
 classes 17\n\
 class 10\n\
@@ -108,7 +109,8 @@ rz(2) 0;x 0\n\
 class 2\n\
 x 0;rz(7) 0\n\
 rz(1) 0;x 0\n\
-end\n";
+end\n"
+}
 
 // A stream that takes nothing.
 #[derive(Drop)]
@@ -145,7 +147,7 @@ fn writes_rules(rt: HostRuntime) -> Result<(), Fail> {
             "generate 01 2 000",
             "quartz-rules 1\nbounds 1 2 0\nclasses 0\nend\n",
         ),
-        ("generate 2 1 0", TWO_GATES),
+        ("generate 2 1 0", two_gates()),
     ] {
         let mut out = MemSink::new(alloc, Vec::new(alloc));
         let status = answer(alloc, words, &mut out)?;
@@ -178,7 +180,7 @@ fn ends_at_a_write_fault(rt: HostRuntime) -> Result<(), Fail> {
         assert_eq!(rt; status, Status::WriteFault);
         assert_eq!(rt; status.number(), 9);
         assert_eq!(rt; out.written().len() as u64, stop);
-        assert!(rt; TWO_GATES.as_bytes().starts_with(out.written()));
+        assert!(rt; two_gates().as_bytes().starts_with(out.written()));
         assert!(rt; stop == 0 || out.written().ends_with(b"rz"));
         assert_eq!(rt; out.faults(), 1);
     }
