@@ -1,5 +1,5 @@
 -- Gates and circuits, and which of them are within limits.
-use Rattle.std.specs.Prelude.{◌≢◌, ℕ, ◌+◌, ◌-◌, ◌<◌, ◌≤◌, ◌==◌, not, List, [], ◌++◌, map, filter, length, Contains}
+use Rattle.std.specs.Prelude.{◌≢◌, ℕ, ◌+◌, ◌-◌, ◌<◌, ◌≤◌, ◌==◌, not, List, ◌++◌, map, filter, length, Contains}
 use Rattle.std.specs.List.{range_with_len, flat_map, AllByRecursion}
 use Rattle.qz_circ.specs.declared.circuit.Expr.{Expr}
 use Rattle.qz_circ.specs.declared.circuit.Expr.TheVariants.{Const, Plus, Minus, Sum}

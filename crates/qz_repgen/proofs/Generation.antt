@@ -1,6 +1,6 @@
 -- What ranks say of representatives, kept circuits and members, and one turn of a generation.
-use Rattle.std.proofs.Common.{◌≡◌, ℕ, zero, suc, ◌+◌, ◌-◌, ◌<◌, ◌≤◌, Bool, true, false, List, [], ◌∷◌, ◌++◌, map, length, get_or, ◌⊎◌, inl, inr, refl, sym, ap, subst, ◌∙◌, arith, cond}
-use Rattle.std.specs.Prelude.{◌↔◌, Contains, All, IsTrue, filter, nat_lt}
+use Rattle.std.proofs.Common.{◌≡◌, ℕ, ◌<◌, ◌≤◌, true, List, [], ◌∷◌, map, length, get_or, refl, sym, ap, subst, ◌∙◌, arith}
+use Rattle.std.specs.Prelude.{All, filter, nat_lt}
 use Rattle.std.specs.List.{AllZip, AllByRecursion}
 use Rattle.std.proofs.lemmas.List.Elements.{All-from_recursion, Contains-get_or}
 use Rattle.qz_circ.specs.Circuit.{Circuit, Limits, Within}
@@ -10,7 +10,7 @@ use Rattle.qz_circ.specs.Order.{is_before, all_circuits, rank, circuit_at}
 use Rattle.qz_circ.specs.Classes.{IsRepresentative, IsKept, IsRepresentativeRank, IsMemberRank, ListsExactly, IsClassList}
 use Rattle.qz_repgen.specs.declared.progress.Class.{Class}
 use Rattle.qz_repgen.specs.Progress.{ListsBelow, Covers, representatives_of}
-use Rattle.qz_repgen.proofs.Listing.{none_below, listed_with, listed_without, lists_exactly}
+use Rattle.qz_repgen.proofs.Listing.{lists_exactly}
 
 -- ranks are places in the order of the circuits within limits
 pub record RanksAreOrder (b : Limits) : Type 0 where

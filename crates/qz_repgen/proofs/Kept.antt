@@ -1,9 +1,9 @@
 -- A circuit is kept where its parts' ranks are known as representatives'.
-use Rattle.std.proofs.Common.{◌≡◌, ℕ, zero, suc, ◌-◌, ◌<◌, ◌≤◌, true, List, [], ◌∷◌, length, drop, take, ◌⊎◌, inl, inr, refl, sym, ap, subst, arith, length-drop, length-take}
+use Rattle.std.proofs.Common.{◌≡◌, ℕ, ◌-◌, ◌<◌, true, List, length, inl, inr, refl, ap, subst, arith, length-drop, length-take}
 use Rattle.std.specs.Prelude.{Contains}
 use Rattle.std.proofs.lemmas.Bool.Decides.{nat_tests}
 use Rattle.qz_circ.specs.Circuit.{Circuit, Limits, Within}
-use Rattle.qz_circ.specs.Order.{is_before, circuit_cmp, all_circuits, rank, circuit_at}
+use Rattle.qz_circ.specs.Order.{is_before, circuit_cmp, rank}
 use Rattle.qz_circ.specs.Classes.{IsRepresentative, IsKept, IsRepresentativeRank, without_first, without_last}
 use Rattle.qz_repgen.specs.declared.progress.Class.{Class}
 use Rattle.qz_repgen.specs.Progress.{Covers, representatives_of}

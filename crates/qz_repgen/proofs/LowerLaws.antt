@@ -1,5 +1,5 @@
 -- What the crate of circuits shows of ranks, as a generation uses it.
-use Rattle.std.proofs.Common.{ℕ, ◌-◌, ◌<◌, length}
+use Rattle.std.proofs.Common.{◌-◌, length}
 use Rattle.qz_circ.specs.Circuit.{Circuit, Limits, Within, IsOn}
 use Rattle.qz_circ.specs.Classes.{without_first, without_last}
 use Rattle.qz_circ.specs.Bounds.{IsLawful}

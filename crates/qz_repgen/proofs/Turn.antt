@@ -1,6 +1,6 @@
 -- One turn of a generation: what is kept below r becomes what is kept below r + 1.
-use Rattle.std.proofs.Common.{◌≡◌, ℕ, zero, suc, ◌+◌, ◌<◌, ◌≤◌, Bool, true, false, List, [], ◌∷◌, ◌++◌, map, length, get_or, ◌⊎◌, inl, inr, refl, sym, ap, subst, ◌∙◌, arith, cond}
-use Rattle.std.specs.Prelude.{Contains, All}
+use Rattle.std.proofs.Common.{◌≡◌, ℕ, zero, suc, ◌+◌, ◌<◌, Bool, true, false, List, [], ◌∷◌, ◌++◌, length, get_or, ◌⊎◌, inl, inr, refl, sym, ap, subst, ◌∙◌, arith, cond}
+use Rattle.std.specs.Prelude.{Contains}
 use Rattle.std.specs.List.{AllZip, AllByRecursion}
 use Rattle.std.proofs.lemmas.List.{map-append}
 use Rattle.qz_circ.specs.Circuit.{Circuit, Limits}
@@ -8,8 +8,8 @@ use Rattle.qz_circ.specs.Equivalence.{Equivalent}
 use Rattle.qz_circ.specs.Order.{all_circuits, circuit_at}
 use Rattle.qz_circ.specs.Classes.{IsKept, IsRepresentativeRank, IsMemberRank}
 use Rattle.qz_repgen.specs.declared.progress.Class.{Class}
-use Rattle.qz_repgen.specs.Progress.{ListsBelow, Covers, representatives_of, Joins, JoinsWhere, AreFlags}
-use Rattle.qz_repgen.proofs.Listing.{none_below, listed_with, listed_without}
+use Rattle.qz_repgen.specs.Progress.{ListsBelow, Covers, representatives_of, JoinsWhere, AreFlags}
+use Rattle.qz_repgen.proofs.Listing.{listed_with, listed_without}
 use Rattle.qz_repgen.proofs.Generation.{RanksAreOrder, member_kept, member_equivalent, member_from, member_not_lower, is_representative, is_no_representative}
 
 -- P holds of the items of xs, and of one more

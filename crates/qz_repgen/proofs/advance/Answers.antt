@@ -1,11 +1,11 @@
-use Rattle.std.proofs.Common.{◌≡◌, ◌+◌, ◌<◌, ◌≤◌, true, length, refl, sym, ap, subst, ◌∙◌, arith}
+use Rattle.std.proofs.Common.{◌≡◌, ◌<◌, true, length, sym, ap, subst, ◌∙◌, arith}
 use Rattle.std.specs.Prelude.{◌↔◌, IsTrue, Contains}
 use Rattle.std.specs.List.{AllZip}
 use mathlib.Core.Bool.{false≢true}
 use Rattle.std.proofs.lemmas.Result.{on_ok_weaker}
 use Rattle.std.proofs.lemmas.List.Elements.{All-from_recursion}
 use Rattle.qz_circ.specs.Circuit.{Within}
-use Rattle.qz_circ.specs.Order.{circuit_at, rank}
+use Rattle.qz_circ.specs.Order.{rank}
 use Rattle.qz_circ.specs.Classes.{IsKept}
 use Rattle.qz_repgen.specs.Progress.{Covers, AreFlags, JoinsWhere}
 use Rattle.qz_repgen.proofs.LowerLaws.{ranks_are_order}

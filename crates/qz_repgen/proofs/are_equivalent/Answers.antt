@@ -1,4 +1,4 @@
-use Rattle.std.proofs.Common.{◌+◌, ◌≤◌, length, sym, subst, arith}
+use Rattle.std.proofs.Common.{sym, subst, arith}
 use Rattle.qz_circ.specs.Circuit.{Circuit, Within, IsOn}
 use Rattle.qz_circ.proofs.BoundsLemmas.{in_range}
 use Rattle.qz_repgen.proofs.LowerLaws.{is_on_from_within}

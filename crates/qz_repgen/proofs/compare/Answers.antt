@@ -1,7 +1,6 @@
-use Rattle.std.proofs.Common.{◌≡◌, ◌+◌, ◌++◌, ◌∷◌, [], length, get_or, refl, sym, ap, subst, ◌∙◌, arith, rules}
+use Rattle.std.proofs.Common.{◌≡◌, ◌+◌, ◌++◌, ◌∷◌, [], sym, ap, subst, ◌∙◌, arith, rules}
 use Rattle.qz_circ.specs.Circuit.{Within}
 use Rattle.qz_circ.specs.Equivalence.{Equivalent}
-use Rattle.qz_circ.specs.Order.{circuit_at}
 use Rattle.qz_repgen.specs.Progress.{AreFlags}
 use Rattle.qz_repgen.proofs.LowerLaws.{ranks_are_order}
 use Rattle.qz_repgen.proofs.Flags.{circuit_so_far, flag_pushed}

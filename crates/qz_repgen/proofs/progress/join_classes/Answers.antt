@@ -1,6 +1,5 @@
-use Rattle.std.proofs.Common.{◌≡◌, ℕ, ◌<◌, length, get_or, sym, subst, ap, arith}
+use Rattle.std.proofs.Common.{get_or, subst, arith}
 use Rattle.std.proofs.lemmas.List.{get_or_default}
-use Rattle.qz_repgen.specs.declared.progress.Class.{Class}
 use Rattle.qz_repgen.specs.Progress.{JoinsWhere}
 use Rattle.qz_repgen.proofs.Listing.{all_zip_from_each}
 use Rattle.qz_repgen.proofs.progress.join_classes.Goals as goal
