@@ -6,6 +6,8 @@ use std::test::Fail;
 #[test]
 fn two_gates_on_one_qubit(rt: HostRuntime) -> Result<(), Fail> {
     let b = Bounds::new(2, 1, 0)?;
+    assert_eq!(rt; (b.n(), b.q(), b.m()), (2, 1, 0));
+    assert_eq!(rt; b.gates(), 9);
     assert_eq!(rt; b.circuits(), 91);
     let first = Op::Rz(0, Expr::Const(1));
     let last = Op::Rz(0, Expr::Const(7));
@@ -16,6 +18,7 @@ fn two_gates_on_one_qubit(rt: HostRuntime) -> Result<(), Fail> {
     assert_eq!(rt; greatest.as_slice(), [last, last].as_slice());
     assert_eq!(rt; op_of(8, b), Some(last));
     assert_eq!(rt; op_of(9, b), None);
+    assert_eq!(rt; op_number(last, b), Some(8));
     assert_eq!(rt; op_number(Op::H(1), b), None);
     Ok(())
 }
