@@ -7,8 +7,8 @@ use crate::standard_sink::StdSink;
 use crate::status::Status;
 use qz_circ::Which;
 use std::alloc::{AllocError, Global};
-use std::io;
 use std::test::Fail;
+use std::{io, str};
 
 // The rules of the identities of at most two gates on one qubit.
 fn two_gates() -> &'static str {
@@ -166,8 +166,8 @@ fn writes_130_classes_of_349_members_on_two_qubits(rt: HostRuntime) -> Result<()
     assert_eq!(rt; answer(alloc, "generate 2 2 0", &mut out)?, Status::Ok);
     let head = b"quartz-rules 1\nbounds 2 2 0\nclasses 130\nclass 21\n-\nh 0;h 0\n";
     assert!(rt; out.written().starts_with(head));
-    let lines = out.written().iter().filter(|byte| **byte == b'\n').count();
-    assert_eq!(rt; lines, 3 + 130 + 349 + 1);
+    let text = str::from_utf8(out.written())?;
+    assert_eq!(rt; text.lines().count(), 3 + 130 + 349 + 1);
     Ok(())
 }
 
