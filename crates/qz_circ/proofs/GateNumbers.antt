@@ -1,5 +1,5 @@
 -- The places of gates and angles in the lists of those within limits, and the order of those lists.
-use Rattle.std.proofs.Common.{◌≡◌, ℕ, zero, suc, ◌+◌, ◌-◌, ◌*◌, ◌/◌, ◌%◌, ◌<◌, ◌≤◌, Bool, true, cond, ltb, eqb, ◌&&◌, not, List, [], ◌∷◌, ◌++◌, map, filter, length, slice_get, Some, Contains, refl, sym, ap, ◌∙◌, arith, is_lt, Ordering, Less, Equal, Greater, true≢false, ◌≢◌, unwrap_or, option_map, zero-add, lt-ltb, le-ltb, le-mul_of_pos_right}
+use Rattle.std.proofs.Common.{◌≡◌, ℕ, zero, suc, ◌+◌, ◌-◌, ◌*◌, ◌/◌, ◌%◌, ◌<◌, ◌≤◌, Bool, true, cond, ltb, eqb, ◌&&◌, not, List, [], ◌∷◌, ◌++◌, map, filter, length, slice_get, Some, IsSome, Contains, refl, sym, ap, ◌∙◌, arith, is_lt, Ordering, Less, Equal, Greater, true≢false, ◌≢◌, ◌↔◌, unwrap_or, option_map, zero-add, lt-ltb, le-ltb, le-mul_of_pos_right}
 use Rattle.std.specs.Cmp.{IsTotalOrder, first_so, second_so}
 use Rattle.std.specs.Cmp.Lexicographic.{on_texts}
 use Rattle.std.specs.List.{flat_map, range_with_len, AllByRecursion}
@@ -280,6 +280,12 @@ has_angle b g h = of_gate (HasAngle b.m) b record {
   of_cx = λ c t k l n. tt;
   of_rz = λ t e l k. k;
 } g h
+
+-- there is an element at each place below the length
+pub listed_within : {A : Type 0} (xs : List A) (k : ℕ) → IsSome (slice_get xs k) ↔ k < length xs
+listed_within [] k = (λ h. absurd (true≢false (sym h)), λ h. absurd (omega arith))
+listed_within (x ∷ xs) zero = (λ h. omega arith, λ h. refl)
+listed_within (x ∷ xs) (suc k) = let rest = listed_within xs k in (λ h. let below = rest.0 h in omega arith, λ h. rest.1 (omega arith))
 
 -- an element is at the place that `Contains` gives
 pub listed_from_contains : {A : Type 0} (xs : List A) (x : A) → (h : Contains xs x) → slice_get xs h.0 ≡ Some x

@@ -28,6 +28,10 @@ flipped_state t state = bit_xor state (2 ^ t)
 abbrev pub way_if : Bool → ℤ → Exponent → List Path
 way_if test s e = if test then record { sign = s; exponent = e } ∷ [] else []
 
+-- through a rotation of qubit t: to the same state, with this exponent where the qubit is 1
+abbrev pub rotation_ways : ℕ → Exponent → Ways
+rotation_ways t e i k = way_if (i == k) (pos 1) (if has_bit t i then e else zero_exponent)
+
 -- the ways through one gate, of which there is at most one between two states
 unfoldable pub entry : Op → Ways
 -- to the same state or the one with qubit t flipped; the sign is -1 where qubit t is 1 in both
@@ -37,7 +41,7 @@ entry (X t) i k = way_if (i == flipped_state t k) (pos 1) zero_exponent
 -- to the state with qubit t flipped where qubit c is 1, and else to the same
 entry (Cx c t) i k = way_if (i == (if has_bit c k then flipped_state t k else k)) (pos 1) zero_exponent
 -- to the same state, with the angle's exponent where qubit t is 1
-entry (Rz t e) i k = way_if (i == k) (pos 1) (if has_bit t i then angle_exponent e else zero_exponent)
+entry (Rz t e) i k = rotation_ways t (angle_exponent e) i k
 
 -- one way and then another: signs multiply and exponents add
 abbrev pub times : Path → Path → Path
@@ -55,9 +59,13 @@ ways_through q first second i j = flat_map (λ k. products (first k j) (second i
 unfoldable pub identity_ways : Ways
 identity_ways i j = way_if (i == j) (pos 1) zero_exponent
 
--- the ways through the gates of a circuit on q qubits, from left to right
+-- the ways through gates on q qubits, from left to right, where the function says the ways through one gate
+unfoldable pub ways_along : {G : Type 0} → (G → Ways) → ℕ → List G → Ways
+ways_along through q gates = fold (λ ways g. ways_through q ways (through g)) identity_ways gates
+
+-- the ways through the gates of a circuit on q qubits
 unfoldable pub paths : ℕ → Circuit → Ways
-paths q c = fold (λ ways g. ways_through q ways (entry g)) identity_ways c
+paths q c = ways_along entry q c
 
 -- the signs of the ways with this exponent, added up
 unfoldable pub total : List Path → Exponent → ℤ

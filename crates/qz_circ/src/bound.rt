@@ -1,5 +1,5 @@
 //! The bounds of a generation: how many gates, qubits and parameters its circuits may have.
-ghost use Rattle.std.specs.Prelude.{◌≡◌, ℕ, ◌<◌, ◌≤◌, ◌+◌, ◌*◌, ◌↔◌, IsOk, IfOk, IfErr, Some, length};
+ghost use Rattle.std.specs.Prelude.{◌≡◌, ℕ, ◌<◌, ◌≤◌, ◌+◌, ◌*◌, ◌↔◌, IsOk, IfOk, Some, length};
 ghost use Rattle.qz_circ.specs.Circuit.{gates_of};
 ghost use Rattle.qz_circ.specs.Bounds.{refusal, gate_count, IsLawful};
 ghost use Rattle.qz_circ.specs.Order.{all_circuits};
@@ -65,7 +65,7 @@ impl Bounds {
     pub fn new(n: u64, q: u64, m: u64) -> Result<Bounds, LimitFault>
         ensures accepted { IfOk result (λ b. b ≡ record { n = n; q = q; m = m }) }
         ensures lawful { IsOk result ↔ IsLawful (record { n = n; q = q; m = m }) }
-        ensures refused { IfErr result (λ fault. refusal (record { n = n; q = q; m = m }) ≡ Some fault) }
+        ensures refused { (fault : LimitFault) → (result ≡ Err fault) ↔ (refusal (record { n = n; q = q; m = m }) ≡ Some fault) }
     {
         match refused(n, q, m) {
             Some(fault) => Err(fault),

@@ -1,4 +1,4 @@
-//! Gates of rewrite rules. A circuit is a list of them, applied from left to right.
+//! Gates of rewrite rules and of programs. A circuit is a list of gates, applied from left to right.
 
 /// The angle of a rotation in a rule. The order of angles is the derived one.
 #[derive(Clone, Copy, Debug, PartialEq, Eq, PartialOrd, Ord)]
@@ -13,7 +13,7 @@ pub enum Expr {
     Sum(u8, u8),
 }
 
-/// A gate of Nam's gate set, on qubits that are numbered from 0. The order of gates is the derived one.
+/// A gate of a rule, of Nam's gate set, on qubits that are numbered from 0. The order of gates is the derived one.
 #[derive(Clone, Copy, Debug, PartialEq, Eq, PartialOrd, Ord)]
 pub enum Op {
     /// The Hadamard gate.
@@ -24,4 +24,17 @@ pub enum Op {
     Cx(u8, u8),
     /// Multiplies by e^(iθ) where the qubit is 1, with θ the angle.
     Rz(u8, Expr),
+}
+
+/// A gate of a program, of Nam's gate set, on qubits that are numbered from 0.
+#[derive(Clone, Copy, Debug, PartialEq, Eq)]
+pub enum Inst {
+    /// The Hadamard gate.
+    H(u8),
+    /// The NOT gate.
+    X(u8),
+    /// NOT of the second qubit where the first is 1.
+    Cx(u8, u8),
+    /// Multiplies by e^(iθ) where the qubit is 1, with θ = k·π/256 for this number k, from 1 to 511.
+    Rz(u8, u16),
 }

@@ -12,7 +12,7 @@ pub mod step_count;
 pub mod worked_values;
 
 pub use bound::Bounds;
-pub use circuit::{Expr, Op};
+pub use circuit::{Expr, Inst, Op};
 pub use class_list::Classes;
 pub use fault::{LimitFault, Memory, Which};
 pub use ranks::{length_of, op_number, op_of, rank, unrank};

@@ -1,6 +1,7 @@
 //! The numbers of gates and circuits within bounds: their places in the order of all of them.
 ghost use Rattle.std.specs.Prelude.{◌≡◌, ℕ, ◌+◌, ◌*◌, ◌<◌, ◌≤◌, ◌↔◌, length, slice_get, IsSome, IfSome, IfOk, Some, Contains};
 ghost use Rattle.qz_circ.specs.Circuit.{Within, gates_of, angles};
+ghost use Rattle.qz_circ.specs.Bounds.{gate_count};
 ghost use Rattle.qz_circ.specs.Order.{all_circuits, rank, circuit_at};
 
 use crate::bound::Bounds;
@@ -131,7 +132,8 @@ fn gate_of(number: u64, q: u64, m: u64) -> Option<Op>
 
 /// The gate with this number among those within the bounds, counted from 0.
 pub fn op_of(number: u64, b: Bounds) -> Option<Op>
-    ensures { result ≡ slice_get (gates_of b) number }
+    ensures within { IsSome result ↔ number < gate_count b }
+    ensures gate { result ≡ slice_get (gates_of b) number }
 {
     gate_of(number, b.q(), b.m())
 }

@@ -1,10 +1,14 @@
 //! Worked values of the definitions, each proved by computing it.
-ghost use Rattle.std.specs.Prelude.{◌≡◌, [], ◌∷◌, length, pos};
-ghost use Rattle.qz_circ.specs.declared.circuit.Expr.TheVariants.{Const};
-ghost use Rattle.qz_circ.specs.declared.circuit.Op.TheVariants.{H, X, Rz};
-ghost use Rattle.qz_circ.specs.Exponent.{zero_exponent, turn_of};
+ghost use Rattle.std.specs.Prelude.{◌≡◌, [], ◌∷◌, length, slice_get, Some, pos, negsuc, ◌+◌, ◌*◌};
+ghost use Rattle.qz_circ.specs.declared.circuit.Expr.TheVariants.{Const, Plus, Minus, Sum};
+ghost use Rattle.qz_circ.specs.declared.circuit.Inst.TheVariants.{Rz as ProgramRz};
+ghost use Rattle.qz_circ.specs.declared.circuit.Op.TheVariants.{H, X, Cx, Rz};
+ghost use Rattle.qz_circ.specs.Circuit.{angles};
+ghost use Rattle.qz_circ.specs.Exponent.{zero_exponent, turn_of, angle_value};
+ghost use Rattle.qz_circ.specs.Joined.{Joined};
 ghost use Rattle.qz_circ.specs.Order.{all_circuits, rank, circuit_at};
 ghost use Rattle.qz_circ.specs.Paths.{paths, count, root2};
+ghost use Rattle.qz_circ.specs.ProgramCircuits.{program_paths};
 
 /// With at most two gates on one qubit there are 91 circuits; X and then a rotation by π/4 comes after 21 of them,
 /// and the last is two rotations by 7π/4.
@@ -14,7 +18,51 @@ pub fn ranks_of_two_gates()
     ensures last { circuit_at (record { n = 2; q = 1; m = 0 }) 90 ≡ Rz 0 (Const 7) ∷ Rz 0 (Const 7) ∷ [] }
 {}
 
-/// H twice on one qubit, with its two factors 1/√2 left out, is twice the identity.
+/// With one parameter there are 133 circuits of at most two gates on one qubit. With three parameters there are 16
+/// angles, and the one at place 14 is the sum of parameters 0 and 2.
+pub fn angles_come_in_order()
+    ensures circuits { length (all_circuits (record { n = 2; q = 1; m = 1 })) ≡ 133 }
+    ensures angles { length (angles 3) ≡ 16 }
+    ensures fourteenth { slice_get (angles 3) 14 ≡ Some (Sum 0 2) }
+{}
+
+/// CX on control 0 and target 1 takes state 1, where qubit 0 alone is 1, to state 3, where both are; and keeps state 2.
+pub fn control_comes_first()
+    ensures flips { count (paths 2 (Cx 0 1 ∷ []) 3 1) zero_exponent ≡ pos 1 }
+    ensures leaves { count (paths 2 (Cx 0 1 ∷ []) 1 1) zero_exponent ≡ pos 0 }
+    ensures keeps { count (paths 2 (Cx 0 1 ∷ []) 2 2) zero_exponent ≡ pos 1 }
+{}
+
+/// A rotation by π/4 multiplies the qubit's 1 by ζ^64, one by a parameter by its unknown, one by the negative of a
+/// parameter by the inverse, and one by a sum by both; the 0 stays.
+pub fn rotations_multiply_by_their_angle()
+    ensures constant { count (paths 1 (Rz 0 (Const 1) ∷ []) 1 1) (turn_of 64) ≡ pos 1 }
+    ensures parameter { count (paths 1 (Rz 0 (Plus 1) ∷ []) 1 1) (record { turn = 0; x0 = pos 0; x1 = pos 1; x2 = pos 0 }) ≡ pos 1 }
+    ensures negative { count (paths 1 (Rz 0 (Minus 2) ∷ []) 1 1) (record { turn = 0; x0 = pos 0; x1 = pos 0; x2 = negsuc 0 }) ≡ pos 1 }
+    ensures sum { count (paths 1 (Rz 0 (Sum 0 2) ∷ []) 1 1) (record { turn = 0; x0 = pos 1; x1 = pos 0; x2 = pos 1 }) ≡ pos 1 }
+    ensures zero { count (paths 1 (Rz 0 (Sum 0 2) ∷ []) 0 0) zero_exponent ≡ pos 1 }
+{}
+
+/// Rotations of a program by 255 and by 2 are together one by 257.
+pub fn rotations_add_up()
+    ensures { program_paths 1 (ProgramRz 0 255 ∷ ProgramRz 0 2 ∷ []) 1 1 ≡ program_paths 1 (ProgramRz 0 257 ∷ []) 1 1 }
+{}
+
+/// With parameters 0 and 1 bound to 100 and 500 turns, π/4 is 64 turns, the negative of parameter 0 is 412, and the
+/// sum is 88.
+pub fn angles_have_values()
+    ensures constant { angle_value (λ i. 100 + 400 * i) (Const 1) ≡ 64 }
+    ensures negative { angle_value (λ i. 100 + 400 * i) (Minus 0) ≡ 412 }
+    ensures sum { angle_value (λ i. 100 + 400 * i) (Sum 0 1) ≡ 88 }
+{}
+
+/// Where the empty circuit and two flips are a class, three flips are joined to one by a step.
+pub fn steps_join()
+    ensures { Joined (([] ∷ (X 0 ∷ X 0 ∷ []) ∷ []) ∷ []) 3 (X 0 ∷ X 0 ∷ X 0 ∷ []) (X 0 ∷ []) }
+{}
+
+/// H twice on one qubit, with its two factors 1/√2 left out, counts the exponent 0 twice from each state to itself, and
+/// in sum never to the other.
 pub fn h_twice_is_two()
     ensures at_0_0 { count (paths 1 (H 0 ∷ H 0 ∷ []) 0 0) zero_exponent ≡ pos 2 }
     ensures at_0_1 { count (paths 1 (H 0 ∷ H 0 ∷ []) 0 1) zero_exponent ≡ pos 0 }
@@ -22,9 +70,10 @@ pub fn h_twice_is_two()
     ensures at_1_1 { count (paths 1 (H 0 ∷ H 0 ∷ []) 1 1) zero_exponent ≡ pos 2 }
 {}
 
-/// The square root of two, twice, is two.
+/// The square root of two, twice, counts the exponent 0 twice, and in sum no other multiple of 64 turns below 256.
 pub fn root_twice_is_two()
     ensures at_0 { count (root2 2 (record { sign = pos 1; exponent = zero_exponent } ∷ [])) zero_exponent ≡ pos 2 }
     ensures at_64 { count (root2 2 (record { sign = pos 1; exponent = zero_exponent } ∷ [])) (turn_of 64) ≡ pos 0 }
     ensures at_128 { count (root2 2 (record { sign = pos 1; exponent = zero_exponent } ∷ [])) (turn_of 128) ≡ pos 0 }
+    ensures at_192 { count (root2 2 (record { sign = pos 1; exponent = zero_exponent } ∷ [])) (turn_of 192) ≡ pos 0 }
 {}

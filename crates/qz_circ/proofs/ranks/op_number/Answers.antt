@@ -32,7 +32,7 @@ returns-in_default-clause-within c =
       λ e. absurd (true≢false (sym e)),
       λ has.
           let found = found_at c.args.b c.args.op c.q.result c.m.result c.op_place-number.result c.q.ensures.value c.m.ensures.value c.op_place-number.ensures has in
-          let same : Some c.in-Some.found ≡ Some c.args.op = sym c.in-Some.is ∙ c.op_of.ensures ∙ found in
+          let same : Some c.in-Some.found ≡ Some c.args.op = sym c.in-Some.is ∙ c.op_of.ensures.gate ∙ found in
           absurd (differ (ap (λ o. unwrap_or o c.args.op) same)),
     )
 
@@ -41,5 +41,5 @@ returns-in_default-2-clause-within c = (
   λ e. absurd (true≢false (sym e)),
   λ has.
       let found = found_at c.args.b c.args.op c.q.result c.m.result c.op_place-number.result c.q.ensures.value c.m.ensures.value c.op_place-number.ensures has in
-      ap is_some (sym c.in_default.is ∙ c.op_of.ensures ∙ found),
+      ap is_some (sym c.in_default.is ∙ c.op_of.ensures.gate ∙ found),
 )

@@ -20,7 +20,7 @@ pub unwrap-requires : goal.unwrap-requires
 unfolding gate_count
 unwrap-requires c =
     let last = last_gate c.args.b c.gates-gates.ensures.lawful c.loop-rest.rest c.gates-gates.result c.gates-gates.ensures.value c.loop-rest-test.true c.loop-rest.invariant.listed in
-    ap is_some (c.op_of.ensures ∙ slice_get-get_or (gates_of c.args.b) ((c.loop-rest.rest - 1) % c.gates-gates.result) (H 0) last.gate)
+    ap is_some (c.op_of.ensures.gate ∙ slice_get-get_or (gates_of c.args.b) ((c.loop-rest.rest - 1) % c.gates-gates.result) (H 0) last.gate)
 
 pub push_reserved-requires : goal.push_reserved-requires
 push_reserved-requires c =
@@ -31,7 +31,7 @@ pub loop-rest-preserved : goal.loop-rest-preserved
 loop-rest-preserved c =
     let last = last_gate c.args.b c.gates-gates.ensures.lawful c.loop-rest.rest c.gates-gates.result c.gates-gates.ensures.value c.loop-rest-test.true c.loop-rest.invariant.listed in
     let before = circuit_at c.args.b ((c.loop-rest.rest - 1) / c.gates-gates.result) in
-    let gate = get_or_from_slice_get (gates_of c.args.b) ((c.loop-rest.rest - 1) % c.gates-gates.result) c.unwrap.result (H 0) (sym c.op_of.ensures ∙ c.unwrap.ensures) in
+    let gate = get_or_from_slice_get (gates_of c.args.b) ((c.loop-rest.rest - 1) % c.gates-gates.result) c.unwrap.result (H 0) (sym c.op_of.ensures.gate ∙ c.unwrap.ensures) in
     let turned : reverse c.push_reserved.new.self.items ≡ c.unwrap.result ∷ reverse c.loop-rest.circuit.items = ap reverse c.push_reserved.ensures.items ∙ reverse-append c.loop-rest.circuit.items (c.unwrap.result ∷ []) in
     let moved : before ++ (c.unwrap.result ∷ reverse c.loop-rest.circuit.items) ≡ (before ++ c.unwrap.result ∷ []) ++ reverse c.loop-rest.circuit.items = sym (append_assoc before (c.unwrap.result ∷ []) (reverse c.loop-rest.circuit.items)) in
     let whole : before ++ c.unwrap.result ∷ [] ≡ circuit_at c.args.b c.loop-rest.rest = ap (λ g. before ++ g ∷ []) (sym gate) ∙ sym last.circuit in

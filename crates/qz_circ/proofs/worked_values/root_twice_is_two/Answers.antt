@@ -13,3 +13,7 @@ returns-clause-at_64 _ = refl
 pub returns-clause-at_128 : goal.returns-clause-at_128
 unfolding total count root2_once root2
 returns-clause-at_128 _ = refl
+
+pub returns-clause-at_192 : goal.returns-clause-at_192
+unfolding total count root2_once root2
+returns-clause-at_192 _ = refl
