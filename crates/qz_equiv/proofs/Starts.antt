@@ -8,7 +8,7 @@ use Rattle.qz_circ.specs.declared.circuit.Op.{Op}
 use Rattle.qz_circ.specs.declared.circuit.Op.TheVariants.{H, X, Cx, Rz}
 use Rattle.qz_circ.specs.Circuit.{Circuit, below}
 use Rattle.qz_circ.specs.Exponent.{Exponent, plus, with_turns}
-use Rattle.qz_circ.specs.Paths.{Path, Ways, products, way_if, entry, ways_through, identity_ways, paths, root2_once, root2, halves}
+use Rattle.qz_circ.specs.Paths.{Path, Ways, products, way_if, entry, ways_through, identity_ways, ways_along, paths, root2_once, root2, halves}
 use Rattle.qz_circ.specs.Equivalence.{scaled_ways}
 use Rattle.qz_equiv.proofs.Exponents.{exponent_eq}
 use Rattle.qz_equiv.specs.Entries.{sign_of, one_way, paths_from, scaled_stay}
@@ -115,5 +115,5 @@ root2-paths_from (suc h) q w c i j = ap root2_once (root2-paths_from h q w c i j
 
 -- the scaled ways are those from a scaled start
 pub scaled_ways-from : (q : ℕ) (c other : Circuit) (i j : ℕ) → scaled_ways q c other i j ≡ paths_from q (scaled_stay (halves other)) c i j
-unfolding scaled_ways paths
+unfolding scaled_ways paths ways_along
 scaled_ways-from q c other i j = root2-paths_from (halves other) q identity_ways c i j

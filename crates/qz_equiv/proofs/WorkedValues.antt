@@ -1,14 +1,16 @@
--- Two pairs of circuits: one is equivalent by a phase that is a parameter, one is not equivalent.
-use Rattle.std.proofs.Common.{◌≡◌, ℕ, zero, suc, ◌+◌, ◌-◌, ◌%◌, ◌<◌, [], ◌∷◌, Bool, true, false, ap, subst, refl, arith}
+-- Circuits that are equivalent, some of them by a phase that is a parameter; circuits that aren't; and one that isn't kept.
+use Rattle.std.proofs.Common.{◌≡◌, ℕ, zero, suc, ◌+◌, ◌-◌, ◌%◌, ◌<◌, [], ◌∷◌, ◌⊎◌, inl, inr, Bool, true, false, ap, sym, ◌∙◌, subst, refl, arith}
 use Rattle.std.specs.Prelude.{pos, ◌+ℤ◌, ◌-ℤ◌, if◌then◌else◌}
 use Rattle.std.proofs.lemmas.Int.{ints}
-use Rattle.qz_circ.specs.declared.circuit.Expr.TheVariants.{Const, Plus, Minus}
+use Rattle.qz_circ.specs.declared.circuit.Expr.TheVariants.{Const, Plus, Minus, Sum}
 use Rattle.qz_circ.specs.declared.circuit.Op.TheVariants.{X, Rz}
-use Rattle.qz_circ.specs.Circuit.{Circuit}
+use Rattle.qz_circ.specs.Circuit.{Circuit, Limits}
 use Rattle.qz_circ.specs.Exponent.{Exponent, IsExponent, zero_exponent, minus, param, same_exponent, with_turns, turn_of}
-use Rattle.qz_circ.specs.Paths.{count, total, paths, ways_through, entry, identity_ways, root2}
+use Rattle.qz_circ.specs.Paths.{count, total, paths, ways_through, entry, identity_ways, ways_along, root2}
 use Rattle.qz_circ.specs.Equivalence.{scaled_ways, Equivalent}
-use Rattle.qz_equiv.proofs.Exponents.{exponent_eq, Decides-same_exponent}
+use Rattle.qz_circ.specs.Classes.{IsRepresentative, IsKept}
+use Rattle.qz_circ.specs.Order.{gate_cmp, circuit_cmp}
+use Rattle.qz_equiv.proofs.Exponents.{exponent_eq, minus-zero, Decides-same_exponent}
 use Rattle.qz_equiv.proofs.Totals.{count-times_one}
 
 -- a flip and then a turn by the parameter, and a turn by its negative and then a flip
@@ -21,7 +23,7 @@ flip_last = Rz 0 (Minus 0) ∷ X 0 ∷ []
 
 -- the same counts, but for the parameter
 flip_counts : (i j : ℕ) (e : Exponent) → i < 2 → j < 2 → IsExponent e → count (scaled_ways 1 flip_first flip_last i j) e ≡ count (scaled_ways 1 flip_last flip_first i j) (minus e (param 0))
-unfolding scaled_ways root2 paths ways_through identity_ways entry count total
+unfolding scaled_ways root2 paths ways_along ways_through identity_ways entry count total
 flip_counts zero zero e hi hj he = refl
 flip_counts zero (suc zero) e hi hj he = count-times_one false (param 0) (record { sign = pos 1; exponent = minus zero_exponent (param 0) } ∷ []) e (omega arith, tt) (omega arith) he
 flip_counts (suc zero) zero e hi hj he = count-times_one false (param 0) (record { sign = pos 1; exponent = zero_exponent } ∷ []) e (omega arith, tt) (omega arith) he
@@ -50,7 +52,7 @@ phase_one u hu h =
 
 -- two turns by different constants
 pub turns_different : Equivalent 1 (Rz 0 (Const 1) ∷ []) (Rz 0 (Const 2) ∷ []) → ⊥
-unfolding scaled_ways root2 paths ways_through identity_ways entry count total
+unfolding scaled_ways root2 paths ways_along ways_through identity_ways entry count total
 turns_different h =
     let at_zero = h.1.counts 0 0 zero_exponent (omega arith) (omega arith) (omega arith) in
     let same = counted_once (same_exponent zero_exponent (minus zero_exponent h.0)) (same_exponent zero_exponent (with_turns (minus zero_exponent h.0) 256)) at_zero in
@@ -60,3 +62,72 @@ turns_different h =
   where
     one_zero : pos 1 ≡ pos 0 → ⊥
     one_zero h = cc
+
+-- circuits with the same ways between each two states of one qubit are equivalent
+same_ways : (a c : Circuit) → ((i j : ℕ) → i < 2 → j < 2 → scaled_ways 1 a c i j ≡ scaled_ways 1 c a i j) → Equivalent 1 a c
+same_ways a c same = (
+  zero_exponent,
+  record {
+    phase = omega arith;
+    counts = λ i j e hi hj he. ap (λ ps. count ps e) (same i j hi hj) ∙ ap (count (scaled_ways 1 c a i j)) (sym (minus-zero e he));
+  },
+)
+
+-- rotations by two parameters, and one by their sum
+abbrev parameters_in_turn : Circuit
+parameters_in_turn = Rz 0 (Plus 0) ∷ Rz 0 (Plus 1) ∷ []
+
+abbrev sum_at_once : Circuit
+sum_at_once = Rz 0 (Sum 0 1) ∷ []
+
+sum_ways : (i j : ℕ) → i < 2 → j < 2 → scaled_ways 1 parameters_in_turn sum_at_once i j ≡ scaled_ways 1 sum_at_once parameters_in_turn i j
+unfolding scaled_ways root2 paths ways_along ways_through identity_ways entry
+sum_ways zero zero hi hj = refl
+sum_ways zero (suc zero) hi hj = refl
+sum_ways (suc zero) zero hi hj = refl
+sum_ways (suc zero) (suc zero) hi hj = refl
+sum_ways (suc (suc i)) j hi hj = absurd (omega arith)
+sum_ways i (suc (suc j)) hi hj = absurd (omega arith)
+
+-- by the phase 1
+pub sum_equivalent : Equivalent 1 (Rz 0 (Plus 0) ∷ Rz 0 (Plus 1) ∷ []) (Rz 0 (Sum 0 1) ∷ [])
+sum_equivalent = same_ways parameters_in_turn sum_at_once sum_ways
+
+-- rotations by two different parameters
+pub parameters_different : Equivalent 1 (Rz 0 (Plus 0) ∷ []) (Rz 0 (Plus 1) ∷ []) → ⊥
+unfolding scaled_ways root2 paths ways_along ways_through identity_ways entry count total
+parameters_different h =
+    let at_zero = h.1.counts 0 0 zero_exponent (omega arith) (omega arith) (omega arith) in
+    let same = counted_once (same_exponent zero_exponent (minus zero_exponent h.0)) (same_exponent zero_exponent (with_turns (minus zero_exponent h.0) 256)) at_zero in
+    let one = phase_one h.0 h.1.phase ((Decides-same_exponent zero_exponent (minus zero_exponent h.0)).0 same) in
+    let at_one = subst (λ (u : Exponent). count (record { sign = pos 1; exponent = param 0 } ∷ []) (param 0) ≡ count (record { sign = pos 1; exponent = param 1 } ∷ []) (minus (param 0) u)) one (h.1.counts 1 1 (param 0) (omega arith) (omega arith) (omega arith)) in
+    absurd (one_zero at_one)
+  where
+    one_zero : pos 1 ≡ pos 0 → ⊥
+    one_zero h = cc
+
+-- no gate, and two flips
+no_gate_ways : (i j : ℕ) → i < 2 → j < 2 → scaled_ways 1 [] (X 0 ∷ X 0 ∷ []) i j ≡ scaled_ways 1 (X 0 ∷ X 0 ∷ []) [] i j
+unfolding scaled_ways root2 paths ways_along ways_through identity_ways entry
+no_gate_ways zero zero hi hj = refl
+no_gate_ways zero (suc zero) hi hj = refl
+no_gate_ways (suc zero) zero hi hj = refl
+no_gate_ways (suc zero) (suc zero) hi hj = refl
+no_gate_ways (suc (suc i)) j hi hj = absurd (omega arith)
+no_gate_ways i (suc (suc j)) hi hj = absurd (omega arith)
+
+abbrev three_gates : Limits
+three_gates = record { n = 3; q = 1; m = 0 }
+
+-- two flips are no representative
+flips_not_first : IsRepresentative three_gates (X 0 ∷ X 0 ∷ []) → ⊥
+unfolding circuit_cmp gate_cmp
+flips_not_first h = h.first [] (record { short = omega arith; gates = tt }) refl (same_ways [] (X 0 ∷ X 0 ∷ []) no_gate_ways)
+
+-- so three are not kept
+pub flips_not_kept : IsKept (record { n = 3; q = 1; m = 0 }) (X 0 ∷ X 0 ∷ X 0 ∷ []) → ⊥
+flips_not_kept h = not_both h.parts
+  where
+    not_both : (X 0 ∷ X 0 ∷ X 0 ∷ [] ≡ []) ⊎ (IsRepresentative three_gates (X 0 ∷ X 0 ∷ []) × IsRepresentative three_gates (X 0 ∷ X 0 ∷ [])) → ⊥
+    not_both (inl e) = cc
+    not_both (inr parts) = flips_not_first parts.0

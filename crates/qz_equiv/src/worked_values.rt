@@ -1,8 +1,9 @@
-//! Circuits with parameters or constants whose equivalence is known, each pair the contract of a function with an
-//! empty body.
+//! Circuits with parameters or constants of which it is known whether they are equivalent, or kept, each the contract
+//! of a function with an empty body.
 ghost use Rattle.std.specs.Prelude.{[], ◌∷◌};
-ghost use Rattle.qz_circ.specs.declared.circuit.Expr.TheVariants.{Const, Plus, Minus};
+ghost use Rattle.qz_circ.specs.declared.circuit.Expr.TheVariants.{Const, Plus, Minus, Sum};
 ghost use Rattle.qz_circ.specs.declared.circuit.Op.TheVariants.{X, Rz};
+ghost use Rattle.qz_circ.specs.Classes.{IsKept};
 ghost use Rattle.qz_circ.specs.Equivalence.{Equivalent};
 
 /// A flip and then a rotation by a parameter is a rotation by its negative and then a flip, up to the phase that
@@ -16,4 +17,22 @@ pub fn flip_undoes_the_sign()
 #[tactic(auto, using(crate::proofs::WorkedValues::turns_different))]
 pub fn different_turns_differ()
     ensures { ¬ Equivalent 1 (Rz 0 (Const 1) ∷ []) (Rz 0 (Const 2) ∷ []) }
+{}
+
+/// Rotations by two parameters are one rotation by their sum.
+#[tactic(auto, using(crate::proofs::WorkedValues::sum_equivalent))]
+pub fn parameters_add_up()
+    ensures { Equivalent 1 (Rz 0 (Plus 0) ∷ Rz 0 (Plus 1) ∷ []) (Rz 0 (Sum 0 1) ∷ []) }
+{}
+
+/// Rotations by different parameters are not equivalent.
+#[tactic(auto, using(crate::proofs::WorkedValues::parameters_different))]
+pub fn different_parameters_differ()
+    ensures { ¬ Equivalent 1 (Rz 0 (Plus 0) ∷ []) (Rz 0 (Plus 1) ∷ []) }
+{}
+
+/// Three flips are not kept: without the first they are no representative, since no gate at all does the same.
+#[tactic(auto, using(crate::proofs::WorkedValues::flips_not_kept))]
+pub fn three_flips_are_not_kept()
+    ensures { ¬ IsKept (record { n = 3; q = 1; m = 0 }) (X 0 ∷ X 0 ∷ X 0 ∷ []) }
 {}
