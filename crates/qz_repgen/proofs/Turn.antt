@@ -8,7 +8,7 @@ use Rattle.qz_circ.specs.Equivalence.{Equivalent}
 use Rattle.qz_circ.specs.Order.{all_circuits, circuit_at}
 use Rattle.qz_circ.specs.Classes.{IsKept, IsRepresentativeRank, IsMemberRank}
 use Rattle.qz_repgen.specs.declared.progress.Class.{Class}
-use Rattle.qz_repgen.specs.Progress.{ListsBelow, Covers, representatives_of, JoinsWhere, AreFlags}
+use Rattle.qz_repgen.specs.Progress.{ListsBelow, Covers, representatives_of, AddsMemberWhere, AreFlags}
 use Rattle.qz_repgen.proofs.Listing.{listed_with, listed_without}
 use Rattle.qz_repgen.proofs.Generation.{RanksAreOrder, member_kept, member_equivalent, member_from, member_not_lower, is_representative, is_no_representative}
 
@@ -26,16 +26,16 @@ module _ (b : Limits) (ranks : RanksAreOrder b)
     (reflexive : (c : Circuit) → Equivalent b.q c c)
     (symmetric : (a c : Circuit) → Equivalent b.q a c → Equivalent b.q c a)
     (r : ℕ) (below : r < length (all_circuits b)) where
-  -- a kept circuit joins the classes of the representatives that it is equivalent to
-  pub joined : (flags : List Bool) → AreFlags b (circuit_at b r) r flags → IsKept b (circuit_at b r) → (old new : List Class) →
+  -- a kept circuit is added to the classes of the representatives that it is equivalent to
+  pub added : (flags : List Bool) → AreFlags b (circuit_at b r) r flags → IsKept b (circuit_at b r) → (old new : List Class) →
       ((s : ℕ) → Contains (representatives_of old) s → (s < r) × IsRepresentativeRank b s) →
-      AllByRecursion (λ c. ListsBelow r (IsMemberRank b c.representative) c.members.items) old → AllZip (JoinsWhere flags r) old new →
+      AllByRecursion (λ c. ListsBelow r (IsMemberRank b c.representative) c.members.items) old → AllZip (AddsMemberWhere flags r) old new →
       AllByRecursion (λ c. ListsBelow (r + 1) (IsMemberRank b c.representative) c.members.items) new
-  joined flags are kept [] [] each all joins = tt
-  joined flags are kept [] (d ∷ ds) each all joins = absurd joins
-  joined flags are kept (c ∷ cs) [] each all joins = absurd joins
-  joined flags are kept (c ∷ cs) (d ∷ ds) each all joins =
-      (one (get_or flags c.representative false) refl, joined flags are kept cs ds (λ s has. each s (suc has.0, omega (arith, has.1), has.2)) all.1 joins.1)
+  added flags are kept [] [] each all adds = tt
+  added flags are kept [] (d ∷ ds) each all adds = absurd adds
+  added flags are kept (c ∷ cs) [] each all adds = absurd adds
+  added flags are kept (c ∷ cs) (d ∷ ds) each all adds =
+      (one (get_or flags c.representative false) refl, added flags are kept cs ds (λ s has. each s (suc has.0, omega (arith, has.1), has.2)) all.1 adds.1)
     where
       of : (c.representative < r) × IsRepresentativeRank b c.representative
       of = each c.representative (zero, omega arith, refl)
@@ -44,29 +44,29 @@ module _ (b : Limits) (ranks : RanksAreOrder b)
       one true is =
           let same = are.set c.representative of.0 is in
           let more = listed_with r (IsMemberRank b c.representative) c.members.items all.0 (member_from b ranks c.representative r below of.1 kept same) in
-          let items : d.members.items ≡ c.members.items ++ r ∷ [] = joins.0.members ∙ ap (λ f. cond f (c.members.items ++ r ∷ []) c.members.items) is in
-          subst (λ xs. ListsBelow (r + 1) (IsMemberRank b d.representative) xs) (sym items) (subst (λ k. ListsBelow (r + 1) (IsMemberRank b k) (c.members.items ++ r ∷ [])) (sym joins.0.representative) more)
+          let items : d.members.items ≡ c.members.items ++ r ∷ [] = adds.0.members ∙ ap (λ f. cond f (c.members.items ++ r ∷ []) c.members.items) is in
+          subst (λ xs. ListsBelow (r + 1) (IsMemberRank b d.representative) xs) (sym items) (subst (λ k. ListsBelow (r + 1) (IsMemberRank b k) (c.members.items ++ r ∷ [])) (sym adds.0.representative) more)
       one false is =
           let more = listed_without r (IsMemberRank b c.representative) c.members.items all.0 (λ h. are.unset c.representative of.0 is (member_equivalent b ranks c.representative r h)) in
-          let items : d.members.items ≡ c.members.items = joins.0.members ∙ ap (λ f. cond f (c.members.items ++ r ∷ []) c.members.items) is in
-          subst (λ xs. ListsBelow (r + 1) (IsMemberRank b d.representative) xs) (sym items) (subst (λ k. ListsBelow (r + 1) (IsMemberRank b k) c.members.items) (sym joins.0.representative) more)
+          let items : d.members.items ≡ c.members.items = adds.0.members ∙ ap (λ f. cond f (c.members.items ++ r ∷ []) c.members.items) is in
+          subst (λ xs. ListsBelow (r + 1) (IsMemberRank b d.representative) xs) (sym items) (subst (λ k. ListsBelow (r + 1) (IsMemberRank b k) c.members.items) (sym adds.0.representative) more)
 
   -- the representatives stay
-  pub joined_representatives : (flags : List Bool) (old new : List Class) → AllZip (JoinsWhere flags r) old new → representatives_of new ≡ representatives_of old
-  joined_representatives flags [] [] joins = refl
-  joined_representatives flags [] (d ∷ ds) joins = absurd joins
-  joined_representatives flags (c ∷ cs) [] joins = absurd joins
-  joined_representatives flags (c ∷ cs) (d ∷ ds) joins =
-      let first = joins.0.representative in
-      let rest = joined_representatives flags cs ds joins.1 in
+  pub added_representatives : (flags : List Bool) (old new : List Class) → AllZip (AddsMemberWhere flags r) old new → representatives_of new ≡ representatives_of old
+  added_representatives flags [] [] adds = refl
+  added_representatives flags [] (d ∷ ds) adds = absurd adds
+  added_representatives flags (c ∷ cs) [] adds = absurd adds
+  added_representatives flags (c ∷ cs) (d ∷ ds) adds =
+      let first = adds.0.representative in
+      let rest = added_representatives flags cs ds adds.1 in
       λ i. first i ∷ rest i
 
-  -- a circuit that isn't kept joins no class
-  pub not_joined : (IsKept b (circuit_at b r) → ⊥) → (classes : List Class) →
+  -- a circuit that isn't kept is added to no class
+  pub not_added : (IsKept b (circuit_at b r) → ⊥) → (classes : List Class) →
       AllByRecursion (λ c. ListsBelow r (IsMemberRank b c.representative) c.members.items) classes →
       AllByRecursion (λ c. ListsBelow (r + 1) (IsMemberRank b c.representative) c.members.items) classes
-  not_joined none [] all = tt
-  not_joined none (c ∷ cs) all = (listed_without r (IsMemberRank b c.representative) c.members.items all.0 (λ h. none (member_kept b ranks c.representative r h)), not_joined none cs all.1)
+  not_added none [] all = tt
+  not_added none (c ∷ cs) all = (listed_without r (IsMemberRank b c.representative) c.members.items all.0 (λ h. none (member_kept b ranks c.representative r h)), not_added none cs all.1)
 
   -- no class is added where a lower circuit is equivalent
   pub no_class : (classes : List Class) → ListsBelow r (IsRepresentativeRank b) (representatives_of classes) →

@@ -25,13 +25,13 @@ pub record Covers (b : Limits) (bound : ℕ) (classes : List Class) : Type 0 whe
   pub members : AllByRecursion (λ c. ListsBelow bound (IsMemberRank b c.representative) c.members.items) classes
 
 -- new is old, with r as one more member where the flag is set
-pub record Joins (flag : Bool) (r : ℕ) (old new : Class) : Type 0 where
+pub record AddsMember (flag : Bool) (r : ℕ) (old new : Class) : Type 0 where
   pub representative : new.representative ≡ old.representative
   pub members : new.members.items ≡ (if flag then old.members.items ++ r ∷ [] else old.members.items)
 
 -- the same, with the flag of the class's representative
-abbrev pub JoinsWhere : List Bool → ℕ → Class → Class → Type 0
-JoinsWhere flags r old new = Joins (slice_index_or flags old.representative false) r old new
+abbrev pub AddsMemberWhere : List Bool → ℕ → Class → Class → Type 0
+AddsMemberWhere flags r old new = AddsMember (slice_index_or flags old.representative false) r old new
 
 -- the members of each class that has several
 abbrev pub several_of : List Class → List (List ℕ)

@@ -11,7 +11,7 @@ ghost use Rattle.qz_repgen.specs.Progress.{Covers, AreFlags, representatives_of,
 
 mod progress;
 
-use progress::{Class, has_representative, join_where_kept, open_class, several};
+use progress::{Class, add_where_kept, has_representative, open_class, several};
 use qz_circ::{Bounds, Classes, Memory, Op, Steps, rank, unrank};
 use qz_equiv::decide;
 use std::alloc::Global;
@@ -73,7 +73,7 @@ fn advance<L: Ledger>(
     let r = circuits.len() as u64;
     let flags = compare(alloc, b, circuits, circuit, steps)?;
     let kept = is_kept(b, classes, circuit);
-    join_where_kept(classes, &flags, r, kept)?;
+    add_where_kept(classes, &flags, r, kept)?;
     if is_any_set(&flags) {
         return Ok(());
     }

@@ -2,7 +2,7 @@
 ghost use Rattle.std.specs.Prelude.{◌≡◌, ◌<◌, length, All, ◌==◌, OnOk, IfOk, IsTrue, IsFalse, [], ◌∷◌, if◌then◌else◌};
 ghost use Rattle.std.specs.List.{AllZip, list_any};
 ghost use Rattle.qz_circ.specs.ClassLists.{AreRanks};
-ghost use Rattle.qz_repgen.specs.Progress.{Opens, Joins, JoinsWhere, several_of};
+ghost use Rattle.qz_repgen.specs.Progress.{Opens, AddsMember, AddsMemberWhere, several_of};
 
 use qz_circ::{Bounds, Classes, Memory};
 use std::alloc::Global;
@@ -53,8 +53,8 @@ pub(crate) fn has_representative(classes: &[Class], r: u64) -> bool
 }
 
 // Adds a rank to the class's members where the flag is set.
-fn join(class: &mut Class, flag: bool, r: u64) -> Result<(), Memory>
-    ensures { OnOk result (Joins flag r class.old class.new) }
+fn add_member(class: &mut Class, flag: bool, r: u64) -> Result<(), Memory>
+    ensures { OnOk result (AddsMember flag r class.old class.new) }
 {
     if flag && class.members.push(r).is_err() {
         return Err(Memory);
@@ -63,30 +63,30 @@ fn join(class: &mut Class, flag: bool, r: u64) -> Result<(), Memory>
 }
 
 // Adds a rank to the members of each class whose representative's flag is set.
-fn join_classes(classes: &mut Vec<Class>, flags: &[bool], r: u64) -> Result<(), Memory>
+fn add_to_classes(classes: &mut Vec<Class>, flags: &[bool], r: u64) -> Result<(), Memory>
     requires { All (λ c. c.representative < length flags.now) classes.old.items }
-    ensures { OnOk result (AllZip (JoinsWhere flags.now r) classes.old.items classes.new.items) }
+    ensures { OnOk result (AllZip (AddsMemberWhere flags.now r) classes.old.items classes.new.items) }
 {
     for k in 0..classes.len() {
         let flag = flags[classes[k].representative as usize];
-        join(&mut classes[k], flag, r)?;
+        add_member(&mut classes[k], flag, r)?;
     }
     Ok(())
 }
 
 // The same where the circuit is kept, and else nothing.
-pub(crate) fn join_where_kept(
+pub(crate) fn add_where_kept(
     classes: &mut Vec<Class>,
     flags: &[bool],
     r: u64,
     kept: bool,
 ) -> Result<(), Memory>
     requires { All (λ c. c.representative < length flags.now) classes.old.items }
-    ensures joined { IsTrue kept → OnOk result (AllZip (JoinsWhere flags.now r) classes.old.items classes.new.items) }
+    ensures added { IsTrue kept → OnOk result (AllZip (AddsMemberWhere flags.now r) classes.old.items classes.new.items) }
     ensures same { IsFalse kept → OnOk result (classes.new.items ≡ classes.old.items) }
 {
     if kept {
-        return join_classes(classes, flags, r);
+        return add_to_classes(classes, flags, r);
     }
     Ok(())
 }
