@@ -1,7 +1,7 @@
 //! Gates of rewrite rules and of programs. A circuit is a list of gates, applied from left to right.
 
-/// The angle of a rotation in a rule. The order of angles is the derived one.
-#[derive(Clone, Copy, Debug, PartialEq, Eq, PartialOrd, Ord)]
+/// The angle of a rotation in a rule.
+#[derive(Clone, Copy, Debug, PartialEq, Eq)]
 pub enum Expr {
     /// A number from 1 to 7, of eighths of a full turn (π/4).
     Const(u8),
@@ -13,8 +13,8 @@ pub enum Expr {
     Sum(u8, u8),
 }
 
-/// A gate of a rule, of Nam's gate set, on qubits that are numbered from 0. The order of gates is the derived one.
-#[derive(Clone, Copy, Debug, PartialEq, Eq, PartialOrd, Ord)]
+/// A gate of a rule, of Nam's gate set, on qubits that are numbered from 0.
+#[derive(Clone, Copy, Debug, PartialEq, Eq)]
 pub enum Op {
     /// The Hadamard gate.
     H(u8),
