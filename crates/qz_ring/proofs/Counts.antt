@@ -1,7 +1,7 @@
 -- Counts of lists in the one form, which determine the list.
-use Rattle.std.proofs.Common.{◌≡◌, ◌≢◌, ℕ, ◌+◌, ◌-◌, ◌%◌, lit<, ◌<◌, ◌≤◌, false, [], ◌∷◌, get_or, ℤ, pos, ◌+ℤ◌, ◌-ℤ◌, neg_ℤ, ◌^◌, Bool, length, to_z, of_z, Some, None, slice_get, refl, sym, ap, subst, ◌∙◌, inl, inr, arith}
+use Rattle.std.proofs.Common.{◌≡◌, ◌≢◌, ℕ, zero, suc, ◌+◌, ◌-◌, ◌%◌, lit<, ◌<◌, ◌≤◌, false, [], ◌∷◌, get_or, ℤ, pos, ◌+ℤ◌, ◌-ℤ◌, neg_ℤ, ◌^◌, Bool, length, to_z, of_z, Some, slice_get, refl, sym, ap, subst, ◌∙◌, inl, inr, arith}
 use mathlib.Core.Bool.{false≢true}
-use Rattle.std.specs.Prelude.{unsigned_abs, IsTrue, ◌↔◌, ◌==◌}
+use Rattle.std.specs.Prelude.{IsTrue, ◌↔◌, ◌==◌}
 use Rattle.std.specs.Int.{w128}
 use Rattle.std.specs.List.{All}
 use Rattle.std.proofs.lemmas.List.Elements.{All-nil, All-cons, All-head, All-tail, All-weaker}
@@ -9,9 +9,9 @@ use Rattle.std.proofs.lemmas.Bool.Decides.{nat_tests}
 use Rattle.std.proofs.lemmas.Int.{ints, to_z-of_z, fits_signed_from_abs}
 use Rattle.qz_ring.specs.Exponent.{Exponent, IsExponent, minus, turn_alone, with_turns, same_exponent, ExponentBefore}
 use Rattle.qz_ring.specs.Terms.{Term, Terms, part_at, coefficient_at, count, weight_of, IsCanonical}
-use Rattle.qz_ring.specs.Counts.{SameCounts, CountsNothing, IsSum, IsTimesRoot2}
-use Rattle.qz_ring.proofs.Order.{same_exponent-self, after_differs, same_from_parts, exponent_cases, ExponentBefore-trans}
-use Rattle.qz_ring.proofs.Sums.{part_at-other, part_at-own}
+use Rattle.qz_ring.specs.Counts.{SameCounts, CountsNothing, IsLeast, IsSum, IsTimesRoot2}
+use Rattle.qz_ring.proofs.Order.{same_exponent-self, before_differs, after_differs, same_from_parts, exponent_cases, ExponentBefore-trans}
+use Rattle.qz_ring.proofs.Sums.{part_at-other, part_at-own, coefficient_within}
 use Rattle.qz_ring.proofs.Canonical.{TermBefore, head_normal, head_before, IsCanonical-nil, IsCanonical-tail}
 
 -- terms with other exponents add nothing
@@ -161,19 +161,35 @@ root2-twice a b c first second e in_circle =
     combined : (ce b1 b2 a1 a2 a3 a4 a128 a256 a384 a0 ae : ℤ) → ce ≡ b1 -ℤ b2 → b1 ≡ a1 -ℤ a2 → b2 ≡ a3 -ℤ a4 → a1 ≡ a128 → a2 ≡ a256 → a3 ≡ a256 → a4 ≡ a384 → a256 ≡ neg_ℤ a0 → a0 ≡ ae → a384 ≡ neg_ℤ a128 → ce ≡ ae +ℤ ae
     combined ce b1 b2 a1 a2 a3 a4 a128 a256 a384 a0 ae p1 p2 p3 p4 p5 p6 p7 p8 p9 p10 = omega (arith, ints)
 
--- the first term that a list has counts its coefficient at its exponent
-pub count-first : (ts : Terms) (t : Term) → Some t ≡ slice_get ts 0 → IsCanonical ts → count ts t.exponent ≡ t.coefficient
-count-first [] t first canonical = cc
-count-first (x ∷ xs) t first canonical =
-    let same : x ≡ t = cc in
-    subst (λ (u : Term). count (x ∷ xs) u.exponent ≡ u.coefficient) same (count-head x xs canonical)
+-- each term is alone at its exponent
+coefficient_at-place : (ts : Terms) (k : ℕ) (t : Term) → k < length ts → t ≡ get_or ts k t → IsCanonical ts → coefficient_at ts t.exponent ≡ t.coefficient
+coefficient_at-place [] k t in_range read canonical = absurd (omega arith)
+coefficient_at-place (x ∷ xs) zero t in_range read canonical = subst (λ (u : Term). coefficient_at (x ∷ xs) u.exponent ≡ u.coefficient) (sym read) (coefficient_at-head x xs canonical)
+coefficient_at-place (x ∷ xs) (suc k) t in_range read canonical =
+    let before : TermBefore x t = subst (TermBefore x) (sym read) (head_before x xs canonical k t (omega arith)) in
+    let other = part_at-other x t.exponent (before_differs x.exponent t.exponent before) in
+    let rest = coefficient_at-place xs k t (omega arith) read (IsCanonical-tail x xs canonical) in
+    omega (arith, ints, other, rest)
 
--- and its coefficient weighs at most as much as the list
-pub first_within : (ts : Terms) (t : Term) → Some t ≡ slice_get ts 0 → unsigned_abs t.coefficient ≤ weight_of ts
-first_within [] t first = absurd (let none : Some t ≡ None = first in cc)
-first_within (x ∷ xs) t first =
-    let same : x ≡ t = cc in
-    rw (← same) (let le : unsigned_abs x.coefficient ≤ unsigned_abs x.coefficient + weight_of xs = omega arith in le)
+-- each term counts its coefficient at its exponent
+pub count-place : (ts : Terms) (k : ℕ) (t : Term) → k < length ts → t ≡ get_or ts k t → IsCanonical ts → count ts t.exponent ≡ t.coefficient
+count-place ts k t in_range read canonical =
+    let low : t.exponent.turn < 256 = subst (λ (u : Term). u.exponent.turn < 256) (sym read) (canonical.half_turns k t in_range) in
+    count-below_half ts canonical t.exponent low ∙ coefficient_at-place ts k t in_range read canonical
+
+-- the exponent of the first term is the least
+pub least-head : (t : Term) (ts : Terms) → IsCanonical (t ∷ ts) → IsLeast (t ∷ ts) t.exponent
+least-head t ts canonical =
+    let normal = head_normal t ts canonical in
+    record {
+      half_turn = normal.half_turn;
+      counted = λ none. normal.nonzero (sym (count-head t ts canonical) ∙ none);
+      least = λ e low counts. elim (exponent_cases t.exponent e) [
+        | inl before ↦ inr before
+        | inr (inl same) ↦ inl (sym same)
+        | inr (inr before) ↦ absurd (counts (count-below_half (t ∷ ts) canonical e low ∙ coefficient_at-before (t ∷ ts) e (All-cons (λ u. ExponentBefore e u.exponent) t ts before (All-weaker (TermBefore t) (λ u. ExponentBefore e u.exponent) (λ u after. ExponentBefore-trans e t.exponent u.exponent before after) ts (head_before t ts canonical)))))
+      ];
+    }
 
 -- an empty list has no counts
 pub count-empty : (ts : Terms) (e : Exponent) → ts ≡ [] → count ts e ≡ pos 0
@@ -191,9 +207,15 @@ empty_tells (t ∷ ts) n r test same =
     let no : r ≡ false = rw longer at test ∙ past_zero (length ts) in
     (λ yes. absurd (false≢true (sym no ∙ yes)), λ none. cc)
 
--- the first term of a list, as it is read, counts its coefficient
-pub count-read : (ts us vs : Terms) (t u : Term) → u ≡ t → Some t ≡ slice_get us 0 → us ≡ vs → vs ≡ ts → IsCanonical vs → weight_of vs ≤ 2 ^ 120 → count ts u.exponent ≡ to_z w128 (of_z w128 u.coefficient)
-count-read ts us vs t u read first same view canonical small =
-    let here : Some u ≡ slice_get vs 0 = rw (read, ← same) first in
-    let within = first_within vs u here in
-    rw (← view, to_z-of_z w128 u.coefficient (fits_signed_from_abs w128 u.coefficient (omega arith))) (count-first vs u here canonical)
+-- the first exponent that is read is the least
+pub least-first : (ts : Terms) (lead : Exponent) (z : ℤ) → slice_get ts 0 ≡ Some (record { exponent = lead; coefficient = z }) → IsCanonical ts → IsLeast ts lead
+least-first [] lead z first canonical = cc
+least-first (t ∷ ts) lead z first canonical =
+    let same : t ≡ record { exponent = lead; coefficient = z } = cc in
+    subst (λ (u : Term). IsLeast (t ∷ ts) u.exponent) same (least-head t ts canonical)
+
+-- a term, as it is read at a place, counts its coefficient
+pub count-read : (ts us : Terms) (k : ℕ) (t u : Term) → u ≡ t → us ≡ ts → k < length us → t ≡ get_or us k t → IsCanonical us → weight_of us ≤ 2 ^ 120 → count ts u.exponent ≡ to_z w128 (of_z w128 u.coefficient)
+count-read ts us k t u read view in_range at canonical small =
+    let within = coefficient_within us k t in_range at in
+    rw (← view, read, to_z-of_z w128 t.coefficient (fits_signed_from_abs w128 t.coefficient (omega arith))) (count-place us k t in_range at canonical)

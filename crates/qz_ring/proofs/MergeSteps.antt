@@ -12,7 +12,7 @@ use Rattle.std.proofs.lemmas.Int.{ints, to_z-of_z, fits_signed_from_abs}
 use Rattle.std.specs.Int.{w128}
 use Rattle.qz_ring.specs.Exponent.{Exponent, with_turns, same_exponent, ExponentBefore, reach_of}
 use Rattle.qz_ring.specs.Terms.{Term, Terms, signed, signed_term, part_at, coefficient_at, count, weight_of, largest_reach, IsCanonical}
-use Rattle.qz_ring.specs.Merging.{joined, IsMerging, IsMerged}
+use Rattle.qz_ring.specs.Merging.{sum_of_two, IsMerging, IsMerged}
 use Rattle.qz_ring.proofs.Numbers.{unsigned_abs-add, unsigned_abs-signed, signed-add}
 use Rattle.qz_ring.proofs.Sums.{coefficient_at-append, weight_of-append, largest_reach-append}
 use Rattle.qz_ring.proofs.Canonical.{TermBefore, head_normal, canonical_before, canonical_replaced, canonical_without, IsCanonical-split, IsCanonical-join, IsJoin, Keeps, IsCanonical-map}
@@ -99,8 +99,8 @@ merge_right n left right out xs ys x y m before =
     }
 
 -- the sum of two terms adds what they add
-coefficient_at-joined : (x s : Term) (e : Exponent) → x.exponent ≡ s.exponent → coefficient_at (joined x s) e ≡ part_at x e +ℤ part_at s e
-coefficient_at-joined x s e same =
+coefficient_at-sum_of_two : (x s : Term) (e : Exponent) → x.exponent ≡ s.exponent → coefficient_at (sum_of_two x s) e ≡ part_at x e +ℤ part_at s e
+coefficient_at-sum_of_two x s e same =
     let sum = x.coefficient +ℤ s.coefficient in
     let v = same_exponent x.exponent e in
     let parts : part_at x e +ℤ part_at s e ≡ cond v sum (pos 0) = rw (← same) (choices_add v x.coefficient s.coefficient) in
@@ -117,8 +117,8 @@ coefficient_at-joined x s e same =
     with_none z = omega (arith, ints)
 
 -- the sum of two terms may stand in the place of either
-canonical_joined : (out zs : Terms) (z x s : Term) → z.exponent ≡ x.exponent → IsCanonical (out ++ z ∷ zs) → IsCanonical ((out ++ joined x s) ++ zs)
-canonical_joined out zs z x s same canonical =
+canonical_sum_of_two : (out zs : Terms) (z x s : Term) → z.exponent ≡ x.exponent → IsCanonical (out ++ z ∷ zs) → IsCanonical ((out ++ sum_of_two x s) ++ zs)
+canonical_sum_of_two out zs z x s same canonical =
     let sum = x.coefficient +ℤ s.coefficient in
     elim (int_eq sum (pos 0)) as (λ w. Decides w (sum ≡ pos 0) → IsCanonical ((out ++ cond w [] (record { exponent = x.exponent; coefficient = sum } ∷ [])) ++ zs)) [
       | true ↦ λ decides. rw append_assoc (canonical_without out zs z canonical)
@@ -126,8 +126,8 @@ canonical_joined out zs z x s same canonical =
     ] (Decides-int_eq sum (pos 0))
 
 -- the sum of two terms weighs at most what they weigh, reaches no further, and is one term or none
-joined_bounds : (x s : Term) → (weight_of (joined x s) ≤ unsigned_abs x.coefficient + unsigned_abs s.coefficient) × (largest_reach (joined x s) ≤ reach_of x.exponent) × (length (joined x s) ≤ 1)
-joined_bounds x s =
+sum_of_two-bounds : (x s : Term) → (weight_of (sum_of_two x s) ≤ unsigned_abs x.coefficient + unsigned_abs s.coefficient) × (largest_reach (sum_of_two x s) ≤ reach_of x.exponent) × (length (sum_of_two x s) ≤ 1)
+sum_of_two-bounds x s =
     let sum = x.coefficient +ℤ s.coefficient in
     let t : Term = record { exponent = x.exponent; coefficient = sum } in
     elim (int_eq sum (pos 0)) as (λ w. let j : Terms = cond w [] (t ∷ []) in (weight_of j ≤ unsigned_abs x.coefficient + unsigned_abs s.coefficient) × (largest_reach j ≤ reach_of x.exponent) × (length j ≤ 1)) [
@@ -136,15 +136,15 @@ joined_bounds x s =
     ]
 
 -- the first terms on both sides have one exponent, and their sum is moved
-pub merge_both : (n : Bool) (left right out xs ys : Terms) (x y : Term) → IsMerging n left right out (x ∷ xs) (y ∷ ys) → x.exponent ≡ y.exponent → IsMerging n left right (out ++ joined x (signed_term n y)) xs ys
+pub merge_both : (n : Bool) (left right out xs ys : Terms) (x y : Term) → IsMerging n left right out (x ∷ xs) (y ∷ ys) → x.exponent ≡ y.exponent → IsMerging n left right (out ++ sum_of_two x (signed_term n y)) xs ys
 merge_both n left right out xs ys x y m same =
     let s = signed_term n y in
-    let j = joined x s in
-    let bounds = joined_bounds x s in
+    let j = sum_of_two x s in
+    let bounds = sum_of_two-bounds x s in
     record {
-      canonical_left = canonical_joined out xs x x s refl m.canonical_left;
-      canonical_right = canonical_joined out ys y x s (sym same) m.canonical_right;
-      coefficients = λ e. moved_both (coefficient_at out e) (part_at x e) (coefficient_at xs e) (part_at s e) (signed n (coefficient_at ys e)) (signed n (coefficient_at (y ∷ ys) e)) (coefficient_at left e +ℤ signed n (coefficient_at right e)) (coefficient_at j e) (coefficient_at (out ++ j) e) (coefficient_at-append out j e) (coefficient_at-joined x s e same) (signed_first n y ys e) (m.coefficients e);
+      canonical_left = canonical_sum_of_two out xs x x s refl m.canonical_left;
+      canonical_right = canonical_sum_of_two out ys y x s (sym same) m.canonical_right;
+      coefficients = λ e. moved_both (coefficient_at out e) (part_at x e) (coefficient_at xs e) (part_at s e) (signed n (coefficient_at ys e)) (signed n (coefficient_at (y ∷ ys) e)) (coefficient_at left e +ℤ signed n (coefficient_at right e)) (coefficient_at j e) (coefficient_at (out ++ j) e) (coefficient_at-append out j e) (coefficient_at-sum_of_two x s e same) (signed_first n y ys e) (m.coefficients e);
       weight = omega (arith, m.weight, weight_of-append out j, bounds.0, unsigned_abs-signed n y.coefficient);
       reach = omega (arith, m.reach, largest_reach-append out j, bounds.1);
       length = omega (arith, m.length, length-append out j, bounds.2);
@@ -186,8 +186,8 @@ code_sum x y small_x small_y =
     rw (to_z-of_z w128 x (fits_signed_from_abs w128 x (omega arith)), to_z-of_z w128 y (fits_signed_from_abs w128 y (omega arith)), to_z-of_z w128 (x +ℤ y) (fits_signed_from_abs w128 (x +ℤ y) (omega arith))) refl
 
 -- a sum that is not 0, as the code makes it, is one term
-pub joined_nonzero : (x y a b : Term) → x ≡ a → y ≡ b → unsigned_abs a.coefficient ≤ 2 ^ 120 → unsigned_abs b.coefficient ≤ 2 ^ 120 → (of_z w128 (to_z w128 (of_z w128 x.coefficient) +ℤ to_z w128 (of_z w128 y.coefficient)) ≡ 0 → ⊥) → record { exponent = x.exponent; coefficient = to_z w128 (of_z w128 (to_z w128 (of_z w128 x.coefficient) +ℤ to_z w128 (of_z w128 y.coefficient))) } ∷ [] ≡ joined a b
-joined_nonzero x y a b read_a read_b small_a small_b nonzero =
+pub sum_of_two-nonzero : (x y a b : Term) → x ≡ a → y ≡ b → unsigned_abs a.coefficient ≤ 2 ^ 120 → unsigned_abs b.coefficient ≤ 2 ^ 120 → (of_z w128 (to_z w128 (of_z w128 x.coefficient) +ℤ to_z w128 (of_z w128 y.coefficient)) ≡ 0 → ⊥) → record { exponent = x.exponent; coefficient = to_z w128 (of_z w128 (to_z w128 (of_z w128 x.coefficient) +ℤ to_z w128 (of_z w128 y.coefficient))) } ∷ [] ≡ sum_of_two a b
+sum_of_two-nonzero x y a b read_a read_b small_a small_b nonzero =
     let sum = a.coefficient +ℤ b.coefficient in
     let t : Term = record { exponent = a.exponent; coefficient = sum } in
     let inner : to_z w128 (of_z w128 x.coefficient) +ℤ to_z w128 (of_z w128 y.coefficient) ≡ sum = rw (read_a, read_b, to_z-of_z w128 a.coefficient (fits_signed_from_abs w128 a.coefficient (omega arith)), to_z-of_z w128 b.coefficient (fits_signed_from_abs w128 b.coefficient (omega arith))) refl in
@@ -224,7 +224,7 @@ module _ (n : Bool) (left right out : Terms) (i j : ℕ) (x y : Term) (i_in : i 
   step_right before = subst (λ (xs : Terms). IsMerging n left right (out ++ signed_term n y ∷ []) xs (drop (j + 1) right)) (sym left_is) (merge_right n left right out (drop (i + 1) left) (drop (j + 1) right) x y opened before)
 
   -- a step on both sides
-  pub step_both : x.exponent ≡ y.exponent → IsMerging n left right (out ++ joined x (signed_term n y)) (drop (i + 1) left) (drop (j + 1) right)
+  pub step_both : x.exponent ≡ y.exponent → IsMerging n left right (out ++ sum_of_two x (signed_term n y)) (drop (i + 1) left) (drop (j + 1) right)
   step_both same = merge_both n left right out (drop (i + 1) left) (drop (j + 1) right) x y opened same
 
 -- the rest of a list, as the code takes it, is all of the rest

@@ -2,8 +2,8 @@
 use Rattle.std.proofs.Common.{◌≡◌, ◌∙◌, ◌⊎◌, ℕ, ℤ, ◌<ℤ◌, true, false, refl, sym, ap, inl, inr, arith}
 use Rattle.std.specs.Bool.{Decides}
 use Rattle.std.proofs.lemmas.Int.{ints, by_lt_z}
-use Rattle.std.proofs.lemmas.Bool.{cases_order}
-use Rattle.std.proofs.lemmas.Bool.Decides.{Decides-and, Decides-eqb, Decides-int_eq, Decides-like}
+use Rattle.std.proofs.lemmas.Bool.{cases_order, not-true}
+use Rattle.std.proofs.lemmas.Bool.Decides.{Decides-and, Decides-not, Decides-eqb, Decides-int_eq, Decides-like}
 use Rattle.qz_ring.specs.Exponent.{Exponent, same_exponent, PowersBefore, ExponentBefore}
 
 -- exponents with the same turn and powers are the same
@@ -35,13 +35,17 @@ ExponentBefore-irreflexive a b same before =
       | inr later ↦ PowersBefore-irreflexive a b (ap (λ (e : Exponent). e.x0) same) (ap (λ (e : Exponent). e.x1) same) (ap (λ (e : Exponent). e.x2) same) later.1
     ]
 
--- an exponent that comes after another is not the same
+-- the test tells that two exponents are not the same
+differing : (a b : Exponent) → ¬ (a ≡ b) → same_exponent a b ≡ false
+differing a b differ = not-true (same_exponent a b) ((Decides-not (same_exponent a b) (same_exponent-decides a b)).1 differ)
+
+-- an exponent that comes before another is not the same
+pub before_differs : (a b : Exponent) → ExponentBefore a b → same_exponent a b ≡ false
+before_differs a b before = differing a b (λ same. ExponentBefore-irreflexive a b same before)
+
+-- nor is one that comes after it
 pub after_differs : (a b : Exponent) → ExponentBefore a b → same_exponent b a ≡ false
-after_differs a b before =
-    elim (same_exponent b a) as (λ v. Decides v (b ≡ a) → v ≡ false) [
-      | true ↦ λ decides. absurd (ExponentBefore-irreflexive a b (sym (decides.0 refl)) before)
-      | false ↦ λ decides. refl
-    ] (same_exponent-decides b a)
+after_differs a b before = differing b a (λ same. ExponentBefore-irreflexive a b (sym same) before)
 
 -- one of two whole numbers is less, or they are the same
 int_cases : (x y : ℤ) → (x <ℤ y) ⊎ ((x ≡ y) ⊎ (y <ℤ x))

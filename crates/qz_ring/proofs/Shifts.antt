@@ -10,7 +10,7 @@ use Rattle.std.proofs.lemmas.Bool.Decides.{nat_tests, same_from_decides, Decides
 use Rattle.std.proofs.lemmas.Int.{ints}
 use Rattle.qz_ring.specs.Exponent.{Exponent, IsExponent, plus, minus, with_turns, same_powers, PowersBefore, ExponentBefore, reach_of}
 use Rattle.qz_ring.specs.Terms.{Term, Terms, signed, part_at, coefficient_at, count, weight_of, largest_reach, reach_times, IsCanonical}
-use Rattle.qz_ring.specs.Shifting.{half_turned, shifted_term, IsShifted}
+use Rattle.qz_ring.specs.Shifting.{below_half_turn, shifted_term, IsShifted}
 use Rattle.qz_ring.proofs.Numbers.{unsigned_abs-signed}
 use Rattle.qz_ring.proofs.Sums.{coefficient_at-append, weight_of-append, largest_reach-append, reach_times-append}
 use Rattle.qz_ring.proofs.MergeSteps.{signed_nonzero}
@@ -140,7 +140,7 @@ PowersBefore-plus a b by (inr (x0, inl less)) = inr (ap (λ (z : ℤ). z +ℤ by
 PowersBefore-plus a b by (inr (x0, inr (x1, less))) = inr (ap (λ (z : ℤ). z +ℤ by.x0) x0, inr (ap (λ (z : ℤ). z +ℤ by.x1) x1, omega (arith, ints)))
 
 -- where the turns go up alike, so does the order of the shifted exponents
-ExponentBefore-plus : (a b by : Exponent) (m n : ℕ) → ((a.turn + by.turn) % 512) % 256 + m ≡ a.turn + n → ((b.turn + by.turn) % 512) % 256 + m ≡ b.turn + n → ExponentBefore a b → ExponentBefore (half_turned (plus a by)) (half_turned (plus b by))
+ExponentBefore-plus : (a b by : Exponent) (m n : ℕ) → ((a.turn + by.turn) % 512) % 256 + m ≡ a.turn + n → ((b.turn + by.turn) % 512) % 256 + m ≡ b.turn + n → ExponentBefore a b → ExponentBefore (below_half_turn (plus a by)) (below_half_turn (plus b by))
 ExponentBefore-plus a b by m n first second (inl less) = inl (omega arith)
 ExponentBefore-plus a b by m n first second (inr (same, powers)) = inr (omega arith, PowersBefore-plus a b by powers)
 

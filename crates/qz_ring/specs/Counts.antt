@@ -1,6 +1,6 @@
 -- What sums and products count, at every exponent.
-use Rattle.std.specs.Prelude.{◌≡◌, pos, ◌+ℤ◌, ◌-ℤ◌}
-use Rattle.qz_ring.specs.Exponent.{Exponent, IsExponent, minus, turn_alone}
+use Rattle.std.specs.Prelude.{◌≡◌, ◌≢◌, ◌<◌, ◌⊎◌, pos, ◌+ℤ◌, ◌-ℤ◌}
+use Rattle.qz_ring.specs.Exponent.{Exponent, IsExponent, ExponentBefore, minus, turn_alone}
 use Rattle.qz_ring.specs.Terms.{Terms, count}
 
 -- both count the same at every exponent
@@ -10,6 +10,12 @@ SameCounts a b = (e : Exponent) → IsExponent e → count a e ≡ count b e
 -- it counts nothing at any exponent
 abbrev pub CountsNothing : Terms → Type 0
 CountsNothing a = (e : Exponent) → IsExponent e → count a e ≡ pos 0
+
+-- of the exponents below half a turn at which a counts something, lead is the least
+pub record IsLeast (a : Terms) (lead : Exponent) : Type 0 where
+  pub half_turn : lead.turn < 256
+  pub counted : count a lead ≢ pos 0
+  pub least : (e : Exponent) → e.turn < 256 → count a e ≢ pos 0 → (e ≡ lead) ⊎ ExponentBefore lead e
 
 -- new counts what a and b count together
 abbrev pub IsSum : Terms → Terms → Terms → Type 0

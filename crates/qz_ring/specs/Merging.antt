@@ -4,9 +4,9 @@ use Rattle.std.specs.Ordering.{int_eq}
 use Rattle.qz_ring.specs.Exponent.{Exponent}
 use Rattle.qz_ring.specs.Terms.{Term, Terms, signed, coefficient_at, weight_of, largest_reach, IsCanonical}
 
--- the sum of two terms with one exponent: no term if the coefficients cancel
-abbrev pub joined : Term → Term → Terms
-joined a b = if int_eq (a.coefficient +ℤ b.coefficient) (pos 0) then [] else (record { exponent = a.exponent; coefficient = a.coefficient +ℤ b.coefficient } ∷ [])
+-- the sum of two terms whose exponents are equal, and only for such: one term, or none if the coefficients cancel
+abbrev pub sum_of_two : Term → Term → Terms
+sum_of_two a b = if int_eq (a.coefficient +ℤ b.coefficient) (pos 0) then [] else (record { exponent = a.exponent; coefficient = a.coefficient +ℤ b.coefficient } ∷ [])
 
 -- out and what is left of both sums still make up the whole sum, and out may go before either rest
 pub record IsMerging (negated : Bool) (left right out left_rest right_rest : Terms) : Type 0 where

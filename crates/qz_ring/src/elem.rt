@@ -2,9 +2,9 @@
 
 ghost use Rattle.std.specs.Prelude.{◌≡◌, ◌≢◌, ◌↔◌, ◌+◌, ◌*◌, ◌^◌, ◌<◌, ◌≤◌, max, pos, [], ◌∷◌, length, slice_get, Some, IsTrue, IfSome, IsNone, IfOk, OnOk, OnErr};
 ghost use Rattle.qz_ring.specs.Exponent.{zero_exponent, reach_of, turn_alone};
-ghost use Rattle.qz_ring.specs.Terms.{count, weight_of, largest_reach, reach_times};
+ghost use Rattle.qz_ring.specs.Terms.{count, weight_of, largest_reach, reach_times, IsCanonical};
 ghost use Rattle.qz_ring.specs.Merging.{IsMerged};
-ghost use Rattle.qz_ring.specs.Counts.{SameCounts, CountsNothing, IsSum, IsDifference, IsTimesMonomial, IsTimesRoot2};
+ghost use Rattle.qz_ring.specs.Counts.{SameCounts, CountsNothing, IsLeast, IsSum, IsDifference, IsTimesMonomial, IsTimesRoot2};
 
 use crate::Memory;
 use crate::exponent::Exponent;
@@ -166,31 +166,36 @@ impl Elem {
 
     /// The sum of the absolute coefficients.
     pub fn weight(&self) -> u128
-        ensures value { result ≡ weight_of self.now }
-        ensures bounded { weight_of self.now ≤ 2 ^ 120 }
-        ensures reach { largest_reach self.now ≤ 2 ^ 40 }
+        ensures { result ≡ weight_of self.now }
     {
         weigh(&self.terms)
     }
 
-    /// The term with the first exponent, if there is a term.
+    /// The least exponent below half a turn that counts something, by turn and then by the powers,
+    /// and its count. There is none exactly where the sum counts nothing.
     pub fn leading(&self) -> Option<(Exponent, i128)>
         ensures none { IsNone result ↔ (self.now ≡ []) }
+        ensures none_counts { IsNone result ↔ CountsNothing self.now }
+        ensures least { IfSome result (λ lead. IsLeast self.now lead.0) }
         ensures first { IfSome result (λ lead. slice_get self.now 0 ≡ Some (record { exponent = lead.0; coefficient = lead.1 })) }
         ensures half_turn { IfSome result (λ lead. lead.0.turn < 256) }
         ensures reach { IfSome result (λ lead. reach_of lead.0 ≤ 2 ^ 40) }
         ensures counted { IfSome result (λ lead. count self.now lead.0 ≡ lead.1) }
         ensures nonzero { IfSome result (λ lead. lead.1 ≢ pos 0) }
     {
-        match self.terms.first() {
-            Some(term) => Some((term.exponent, term.coefficient)),
-            None => None,
+        let _ = &self.terms;
+        if self.is_zero() {
+            return None;
         }
+        Some(self.term(0))
     }
 
     /// The number of terms.
     pub fn terms(&self) -> u64
-        ensures { result ≡ length self.now }
+        ensures number { result ≡ length self.now }
+        ensures canonical { IsCanonical self.now }
+        ensures weight { weight_of self.now ≤ 2 ^ 120 }
+        ensures reach { largest_reach self.now ≤ 2 ^ 40 }
     {
         self.terms.len() as u64
     }
@@ -199,6 +204,7 @@ impl Elem {
     pub fn term(&self, k: u64) -> (Exponent, i128)
         requires { k < length self.now }
         ensures value { slice_get self.now k ≡ Some (record { exponent = result.0; coefficient = result.1 }) }
+        ensures counted { count self.now result.0 ≡ result.1 }
         ensures half_turn { result.0.turn < 256 }
         ensures reach { reach_of result.0 ≤ 2 ^ 40 }
         ensures nonzero { result.1 ≢ pos 0 }

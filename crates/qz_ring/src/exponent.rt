@@ -3,7 +3,7 @@
 ghost use Rattle.std.specs.Prelude.{◌≡◌, ◌^◌, ◌≤◌};
 ghost use Rattle.std.specs.Ordering.{MatchOrdering};
 ghost use Rattle.qz_ring.specs.Exponent.{ExponentBefore, plus, reach_of};
-ghost use Rattle.qz_ring.specs.Shifting.{half_turned};
+ghost use Rattle.qz_ring.specs.Shifting.{below_half_turn};
 
 use std::cmp::Ordering;
 use std::marker::Model;
@@ -76,7 +76,7 @@ pub(crate) fn product_of(a: Exponent, b: Exponent) -> Exponent
 
 // The exponent with its turn brought below half a circle.
 pub(crate) fn below_half(e: Exponent) -> Exponent
-    ensures { result ≡ half_turned e }
+    ensures { result ≡ below_half_turn e }
 {
     let powers = e.powers;
     Exponent {

@@ -2,7 +2,7 @@
 
 ghost use Rattle.std.specs.Prelude.{◌≡◌, ◌+◌, ◌^◌, ◌<◌, ◌≤◌, ◌⊎◌, [], ◌++◌, map, length, drop, vec_len, vec_capacity, IfOk, unsigned_abs};
 ghost use Rattle.qz_ring.specs.Terms.{signed_term, weight_of, IsCanonical};
-ghost use Rattle.qz_ring.specs.Merging.{IsMerging, IsMerged, joined};
+ghost use Rattle.qz_ring.specs.Merging.{IsMerging, IsMerged, sum_of_two};
 
 use crate::Memory;
 use crate::exponent::compare;
@@ -88,7 +88,7 @@ fn push_both(a: Term, b: Term, out: &mut Vec<Term>)
     requires left_weight { unsigned_abs a.coefficient ≤ 2 ^ 120 }
     requires right_weight { unsigned_abs b.coefficient ≤ 2 ^ 120 }
     requires room { vec_len out.old < vec_capacity out.old }
-    ensures items { out.new.items ≡ out.old.items ++ joined a b }
+    ensures items { out.new.items ≡ out.old.items ++ sum_of_two a b }
     ensures capacity { vec_capacity out.new ≡ vec_capacity out.old }
 {
     let coefficient = a.coefficient + b.coefficient;

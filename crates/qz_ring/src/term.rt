@@ -16,9 +16,9 @@ pub(crate) struct Term {
 }
 
 impl Model for Term {
-    ghost use Rattle.qz_ring.specs.Terms.{Term as Monomial};
+    ghost use Rattle.qz_ring.specs.Terms.{Term as TermValue};
 
-    ghost Value = { Monomial };
+    ghost Value = { TermValue };
 
     ghost view = { λ a. record { exponent = a.exponent; coefficient = a.coefficient } };
 

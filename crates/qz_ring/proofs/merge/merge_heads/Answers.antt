@@ -1,6 +1,6 @@
 use Rattle.std.proofs.Common.{◌+◌, drop, sym, ap, subst, ◌∙◌, ◌++◌, [], ◌∷◌, arith}
 use Rattle.qz_ring.specs.Terms.{Term, Terms}
-use Rattle.qz_ring.specs.Merging.{IsMerging, joined}
+use Rattle.qz_ring.specs.Merging.{IsMerging, sum_of_two}
 use Rattle.qz_ring.proofs.MergeSteps.{before_read, step_left, step_right, step_both}
 use Rattle.qz_ring.proofs.merge.merge_heads.Goals as goal
 
@@ -43,7 +43,7 @@ loop-i-preserved c =
     let y = c.index-right-j.result in
     let same = sym (ap exponent c.a.view_is) ∙ c.in-Equal.ensures ∙ ap exponent c.b.view_is in
     let step = step_both c.args.negated c.args.left.now c.args.right.now c.loop-i.out.items c.loop-i.i c.loop-i.j x y c.loop-i-test.true c.if-j-right.true c.index-left-i.is c.index-right-j.is c.loop-i.invariant.merging same in
-    let made = c.push_both.ensures.items ∙ ap (λ (t : Term). c.loop-i.out.items ++ joined x t) c.with_sign-in-Equal.ensures in
+    let made = c.push_both.ensures.items ∙ ap (λ (t : Term). c.loop-i.out.items ++ sum_of_two x t) c.with_sign-in-Equal.ensures in
     record {
       merging = subst (λ (ts : Terms). IsMerging c.args.negated c.args.left.now c.args.right.now ts (drop (c.loop-i.i + 1) c.args.left.now) (drop (c.loop-i.j + 1) c.args.right.now)) (sym made) step;
       left_within = omega arith;

@@ -1,7 +1,6 @@
-use Rattle.qz_ring.proofs.Counts.{count-read}
+use Rattle.qz_ring.proofs.Counts.{least-first}
 use Rattle.qz_ring.proofs.elem.Elem.leading.Goals as goal
 
--- the first term counts its coefficient
-pub returns-in-Some-clause-counted : goal.returns-in-Some-clause-counted
-returns-in-Some-clause-counted c =
-    count-read c.args.self.now c.deref.result.now c.self.inside.terms.items c.in-Some.term.now (record { exponent = c.term.inside.exponent; coefficient = c.term.inside.coefficient }) c.term.view_is c.in-Some.ensures.value c.deref.ensures.value c.self.view_is c.self.invariant.0 c.self.invariant.1
+-- the first term has the least exponent
+pub returns-clause-least : goal.returns-clause-least
+returns-clause-least c = least-first c.args.self.now c.term.result.0 c.term.result.1 c.term.ensures.value (rw c.self.view_is at c.self.invariant.0)
