@@ -1,10 +1,10 @@
 -- Sums of monomials that have the counts of path sums: as entries, columns and matrices.
-use Rattle.std.specs.Prelude.{◌≡◌, ℕ, ◌+◌, ◌*◌, ◌^◌, ◌<◌, ◌≤◌, max, Bool, true, false, Option, Some, None, List, [], ◌∷◌, length, slice_index_or, fold, ℤ, pos, negsuc, ◌+ℤ◌}
+use Rattle.std.specs.Prelude.{◌≡◌, ℕ, ◌+◌, ◌*◌, ◌^◌, ◌<◌, ◌≤◌, max, Bool, true, false, Option, Some, None, List, [], ◌∷◌, length, slice_index_or, ℤ, pos, negsuc, ◌+ℤ◌}
 use Rattle.std.specs.List.{flat_map, AllByRecursion}
 use Rattle.qz_circ.specs.declared.circuit.Op.{Op}
-use Rattle.qz_circ.specs.Circuit.{Circuit, below, ActsBelow, HasBelow}
+use Rattle.qz_circ.specs.Circuit.{below, ActsBelow, HasBelow}
 use Rattle.qz_circ.specs.Exponent.{Exponent, IsExponent}
-use Rattle.qz_circ.specs.Paths.{Path, Ways, count as path_count, products, entry, root2, identity_ways, ways_through}
+use Rattle.qz_circ.specs.Paths.{Path, Ways, count as path_count, products, entry}
 use Rattle.qz_ring.specs.Exponent.{Exponent as Monomial, IsExponent as IsMonomial}
 use Rattle.qz_ring.specs.Terms.{Terms, count, weight_of, largest_reach}
 
@@ -78,18 +78,6 @@ pub record IsGathered (size : ℕ) (g : Op) (i : ℕ) (column : List Terms) (k :
 pub record IsNextColumn (size : ℕ) (g : Op) (old new : List Terms) : Type 0 where
   pub rows : length new ≡ size
   pub entries : (i : ℕ) → i < size → IsGathered size g i old size (row new i)
-
--- the ways through the gates of a circuit after those of a start
-abbrev pub paths_from : ℕ → Ways → Circuit → Ways
-paths_from q start c = fold (λ ways g. ways_through q ways (entry g)) start c
-
--- no gate, times the square root of two as often as the number says
-abbrev pub scaled_stay : ℕ → Ways
-scaled_stay h i j = root2 h (identity_ways i j)
-
--- the ways through a circuit from one state, times the square root of two as often as the number says
-abbrev pub scaled_paths : ℕ → ℕ → Circuit → ℕ → ℕ → List Path
-scaled_paths q h c j i = paths_from q (scaled_stay h) c i j
 
 -- the gate is on qubits below q and has no parameters
 abbrev pub IsPlain : ℕ → Op → Type 0

@@ -2,10 +2,10 @@
 ghost use Rattle.std.specs.Prelude.{◌≡◌, ◌+◌, ◌^◌, ◌<◌, ◌≤◌, false, [], length, max, ◌+ℤ◌, IfOk, OnOk, IfSome};
 ghost use Rattle.qz_circ.specs.Circuit.{IsOn};
 ghost use Rattle.qz_circ.specs.Exponent.{zero_exponent};
-ghost use Rattle.qz_circ.specs.Paths.{root2};
+ghost use Rattle.qz_circ.specs.Paths.{identity_ways, paths, root2};
 ghost use Rattle.qz_ring.specs.Exponent.{Exponent as Monomial, IsExponent as IsMonomial, minus, turn_alone};
 ghost use Rattle.qz_ring.specs.Terms.{signed, count, weight_of, largest_reach};
-ghost use Rattle.qz_equiv.specs.Entries.{one_way, ways_of, row, column as column_of, paths_from, scaled_stay, scaled_paths, IsEntry, IsColumn, IsMatrix, IsLight, IsPlain, AddsWay, IsGathered, IsNextColumn};
+ghost use Rattle.qz_equiv.specs.Entries.{one_way, ways_of, row, column as column_of, IsEntry, IsColumn, IsMatrix, IsLight, IsPlain, AddsWay, IsGathered, IsNextColumn};
 
 use crate::gate_way::way;
 use qz_circ::Op;
@@ -133,7 +133,7 @@ fn power_of_root2(alloc: Global, h: u64) -> Result<Elem, Memory>
 // The entry of no gate in row i and column j, times a power of the square root of 2.
 fn start_entry(alloc: Global, h: u64, i: usize, j: usize) -> Result<Elem, Memory>
     requires { h ≤ 100 }
-    ensures { IfOk result (IsEntry h (scaled_stay h i j)) }
+    ensures { IfOk result (IsEntry h (root2 h (identity_ways i j))) }
 {
     if i != j {
         return Ok(Elem::zero(alloc));
@@ -143,10 +143,11 @@ fn start_entry(alloc: Global, h: u64, i: usize, j: usize) -> Result<Elem, Memory
 }
 
 // The column of no gate, times a power of the square root of 2.
+#[tactic(auto, unfolding(qz_circ::specs::Paths::paths))]
 fn start_column(alloc: Global, q: u64, h: u64, j: usize) -> Result<Column, Memory>
     requires qubits { q ≤ 3 }
     requires powers { h ≤ 100 }
-    ensures { IfOk result (IsColumn (2 ^ q) h (scaled_paths q h [] j)) }
+    ensures { IfOk result (IsColumn (2 ^ q) h (λ i. root2 h (paths q [] i j))) }
 {
     let rows = 1 << q;
     let Ok(mut entries) = Vec::with_capacity(alloc, rows) else {
@@ -163,7 +164,7 @@ fn column_of_circuit(alloc: Global, q: u64, c: &[Op], h: u64, j: usize) -> Resul
     requires qubits { q ≤ 3 }
     requires gates { IsOn q 0 c.now }
     requires short { length c.now + h ≤ 100 }
-    ensures { IfOk result (IsColumn (2 ^ q) (length c.now + h) (scaled_paths q h c.now j)) }
+    ensures { IfOk result (IsColumn (2 ^ q) (length c.now + h) (λ i. root2 h (paths q c.now i j))) }
 {
     let mut column = start_column(alloc, q, h, j)?;
     for g in c {
@@ -193,7 +194,7 @@ impl Matrix {
         requires qubits { q ≤ 3 }
         requires gates { IsOn q 0 c.now }
         requires short { length c.now + h ≤ 100 }
-        ensures { IfOk result (IsMatrix (2 ^ q) (length c.now + h) (paths_from q (scaled_stay h) c.now)) }
+        ensures { IfOk result (IsMatrix (2 ^ q) (length c.now + h) (λ i j. root2 h (paths q c.now i j))) }
     {
         let size = 1 << q;
         let Ok(mut columns) = Vec::with_capacity(alloc, size) else {
