@@ -7,8 +7,12 @@ use Rattle.qz_circ.specs.Paths.{Ways, paths, root2, halves}
 use Rattle.qz_circ.specs.Equivalence.{scaled_ways, SameUpTo, Equivalent}
 use Rattle.qz_ring.specs.Exponent.{Exponent as Monomial, IsExponent as IsMonomial, minus}
 use Rattle.qz_ring.specs.Terms.{Terms}
-use Rattle.qz_equiv.specs.Entries.{exponent_of, monomial_of, row, column, IsEntry, IsMatrix}
+use Rattle.qz_equiv.specs.Entries.{exponent_of, row, column, IsEntry, IsMatrix}
 use Rattle.qz_equiv.specs.Phases.{IsMatrixShift, HasPhase}
+
+-- the exponent of a path sum as a monomial
+abbrev monomial_of : Exponent → Monomial
+monomial_of e = record { turn = e.turn; x0 = e.x0; x1 = e.x1; x2 = e.x2 }
 
 -- the matrix of a circuit has the scaled ways of it and another one
 pub scaled_matrix : (q n : ℕ) (c other : Circuit) (h : ℕ) (m : List (List Terms)) → h ≡ halves other → IsMatrix (2 ^ q) n (λ i j. root2 h (paths q c i j)) m → IsMatrix (2 ^ q) n (scaled_ways q c other) m
