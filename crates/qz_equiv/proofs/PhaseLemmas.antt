@@ -16,6 +16,10 @@ power_difference x y p q first second small_p small_q =
     let bound : unsigned_abs (p -ℤ q) ≤ 200 = omega (arith, unsigned_abs-add p (neg_ℤ q), unsigned_abs-neg q) in
     rw (first, second, to_z-of_z w64 p (fits_signed_from_abs w64 p (omega arith)), to_z-of_z w64 q (fits_signed_from_abs w64 q (omega arith)), to_z-of_z w64 (p -ℤ q) (fits_signed_from_abs w64 (p -ℤ q) (omega arith))) refl
 
+-- each power is at most as large as the largest
+pub powers_within : (e : Monomial) (n : ℕ) → reach_of e ≤ n → (unsigned_abs e.x0 ≤ n) × (unsigned_abs e.x1 ≤ n) × (unsigned_abs e.x2 ≤ n)
+powers_within e n h = (omega arith, omega arith, omega arith)
+
 -- a quotient's powers are at most as large as both powers together
 pub reach_of-minus : (a b : Monomial) → reach_of a ≤ 100 → reach_of b ≤ 100 → reach_of (minus a b) ≤ 200
 reach_of-minus a b small_a small_b =

@@ -10,7 +10,6 @@ use crate::matrix::{Column, Matrix};
 use qz_ring::{Elem, Exponent, Memory};
 
 // Whether x is the monomial times y.
-#[tactic(auto, using(qz_ring::proofs::Sums::reach_times_le))]
 fn same_entry(x: &Elem, y: &Elem, by: Exponent) -> Result<bool, Memory>
     requires powers { largest_reach y.now ≤ 100 }
     requires reach { reach_of by ≤ 200 }
