@@ -43,7 +43,7 @@ pub record IsEntry (n : ℕ) (ps : List Path) (ts : Terms) : Type 0 where
 abbrev pub row : List Terms → ℕ → Terms
 row column i = slice_index_or column i []
 
--- each entry of the column has the counts of the ways to its row
+-- each entry of the column has the counts of the ways to its row, with a weight of at most 2 ^ n and powers of at most n
 pub record IsColumn (size n : ℕ) (ways : ℕ → List Path) (column : List Terms) : Type 0 where
   pub rows : length column ≡ size
   pub entries : (i : ℕ) → i < size → IsEntry n (ways i) (row column i)
@@ -56,21 +56,21 @@ WeightsAtMost most column = (i : ℕ) → i < length column → weight_of (row c
 abbrev pub PowersAtMost : ℕ → List Terms → Type 0
 PowersAtMost most column = (i : ℕ) → i < length column → largest_reach (row column i) ≤ most
 
--- new is old, and the part times the monomial of a way added, or subtracted where the way is negated
+-- new is old with the part, times the way's monomial, added to it, or taken from it where the way is negated
 pub record AddsWay (part : Terms) (way : Way) (old new : Terms) : Type 0 where
   pub counts : (e : Monomial) → IsMonomial e → count new e ≡ count old e +ℤ signed way.negated (count part (minus e way.exponent))
   pub weight : weight_of new ≤ weight_of old + weight_of part
   pub reach : largest_reach new ≤ max (largest_reach old) (largest_reach part + reach_of way.exponent)
 
--- the ways to row i through one more gate, over each row between
+-- the ways to row i through one more gate: the ways to each row, and then the gate from there
 abbrev pub ways_after : ℕ → Op → (ℕ → List Path) → ℕ → List Path
 ways_after size g ways i = flat_map (λ k. products (ways k) (entry g i k)) (below size)
 
--- whatever ways the old column has the counts of, the sum has those of the ways to row i through one more gate
+-- for every ways of which old is the column, the sum is the entry of the ways to row i through one more gate
 abbrev pub IsNextEntry : ℕ → Op → ℕ → List Terms → Terms → Type 0
 IsNextEntry size g i old sum = (n : ℕ) (ways : ℕ → List Path) → IsColumn size n ways old → IsEntry (n + 1) (ways_after size g ways i) sum
 
--- whatever ways the old column has the counts of, the new one has those of the ways through one more gate
+-- for every ways of which old is the column, new is the column of the ways through one more gate
 abbrev pub IsNextColumn : ℕ → Op → List Terms → List Terms → Type 0
 IsNextColumn size g old new = (n : ℕ) (ways : ℕ → List Path) → IsColumn size n ways old → IsColumn size (n + 1) (ways_after size g ways) new
 
@@ -78,7 +78,7 @@ IsNextColumn size g old new = (n : ℕ) (ways : ℕ → List Path) → IsColumn 
 abbrev pub column : List (List Terms) → ℕ → List Terms
 column matrix j = slice_index_or matrix j []
 
--- each entry of the matrix has the counts of the ways to its row from its column
+-- each entry of the matrix has the counts of the ways to its row from its column, with a weight of at most 2 ^ n and powers of at most n
 pub record IsMatrix (size n : ℕ) (ways : Ways) (matrix : List (List Terms)) : Type 0 where
   pub columns : length matrix ≡ size
   pub entries : (j : ℕ) → j < size → IsColumn size n (λ i. ways i j) (column matrix j)

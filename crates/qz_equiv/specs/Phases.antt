@@ -13,7 +13,7 @@ IsColumnShift by x y = (i : ℕ) → i < length x → IsTimesMonomial by (row y 
 abbrev pub IsMatrixShift : Monomial → List (List Terms) → List (List Terms) → Type 0
 IsMatrixShift by x y = (j : ℕ) → j < length x → IsColumnShift by (column x j) (column y j)
 
--- some monomial takes y to x
+-- x is some monomial times y
 abbrev pub HasPhase : List (List Terms) → List (List Terms) → Type 0
 HasPhase x y = (u : Monomial) × IsMonomial u × IsMatrixShift u x y
 
