@@ -7,15 +7,15 @@ use Rattle.std.proofs.lemmas.List.Sums.{fold_more}
 use Rattle.std.proofs.lemmas.Bool.Decides.{nat_tests}
 use Rattle.std.proofs.Math.Nat.{pow-suc, pow-le-pow_right}
 use Rattle.qz_circ.specs.declared.circuit.Op.{Op}
-use Rattle.qz_circ.specs.Circuit.{Circuit, IsOn}
+use Rattle.qz_circ.specs.Circuit.{Circuit}
 use Rattle.qz_circ.specs.Exponent.{zero_exponent, same_exponent}
-use Rattle.qz_circ.specs.Paths.{Path, Ways, count as path_count, total, entry, ways_through, identity_ways, way_if, root2, root2_once}
+use Rattle.qz_circ.specs.Paths.{Path, Ways, count as path_count, total, entry, ways_through, identity_ways, ways_along, paths, way_if, root2, root2_once}
 use Rattle.qz_ring.specs.Exponent.{Exponent as Monomial, minus, with_turns, zero_exponent as no_monomial, same_exponent as same_monomial, turn_alone}
 use Rattle.qz_ring.specs.Terms.{Terms, weight_of, largest_reach}
 use Rattle.qz_ring.specs.Counts.{IsTimesRoot2}
-use Rattle.qz_equiv.specs.Entries.{exponent_of, one_way, IsEntry, row, IsColumn, IsLight, gathered, IsNextColumn, IsPlain, scaled_stay, scaled_paths}
+use Rattle.qz_equiv.specs.Entries.{exponent_of, one_way, IsEntry, IsColumn, WeightsAtMost, PowersAtMost, ways_after, IsNextColumn}
 use Rattle.qz_equiv.proofs.Totals.{count-none, count-root2_once, AreProper-root2_once}
-use Rattle.qz_equiv.proofs.GatheredLemmas.{gathered_all}
+use Rattle.qz_equiv.proofs.Starts.{root2-ways_through}
 
 -- what holds of each holds of the one in a place
 pub each_at : {X : Type 0} (P : X → Type 0) (xs : List X) (i : ℕ) (d : X) → AllByRecursion P xs → i < length xs → P (get_or xs i d)
@@ -23,33 +23,33 @@ each_at P [] i d h less = absurd (omega arith)
 each_at P (x ∷ xs) zero d h less = h.0
 each_at P (x ∷ xs) (suc i) d h less = each_at P xs i d h.1 (omega arith)
 
--- a column is light where its bound is small
-pub light_column : (size n : ℕ) (ways : ℕ → List Path) (column : List Terms) → n ≤ 100 → IsColumn size n ways column → IsLight column
-light_column size n ways column small is_column i less =
+-- the weights of a column are small where its bound is
+pub column_weights : (size n : ℕ) (ways : ℕ → List Path) (column : List Terms) → n ≤ 100 → IsColumn size n ways column → WeightsAtMost (2 ^ 100) column
+column_weights size n ways column small is_column i less =
     let here = is_column.entries i (subst (λ s. i < s) is_column.rows less) in
     let power : 2 ^ n ≤ 2 ^ 100 = pow-le-pow_right {n = 2} (omega arith) small in
-    (omega (arith, here.weight, power), omega (arith, here.reach, small))
+    omega (arith, here.weight, power)
 
--- the column after one more gate has the counts of the ways through it
-pub next_column : (q n : ℕ) (g : Op) (ways : ℕ → List Path) (old new : List Terms) → q ≤ 3 → IsPlain q g → IsColumn (2 ^ q) n ways old → IsNextColumn (2 ^ q) g old new → IsColumn (2 ^ q) (n + 1) (λ i. gathered (2 ^ q) g i ways) new
-next_column q n g ways old new small plain before next = record {
-  rows = next.rows;
-  entries = λ i less. gathered_all q g i old n ways (row new i) small plain.0 less before (next.entries i less);
-}
+-- the powers of a column are small where its bound is
+pub column_powers : (size n : ℕ) (ways : ℕ → List Path) (column : List Terms) → n ≤ 100 → IsColumn size n ways column → PowersAtMost 100 column
+column_powers size n ways column small is_column i less =
+    let here = is_column.entries i (subst (λ s. i < s) is_column.rows less) in
+    omega (arith, here.reach, small)
 
 -- one more gate of a circuit
-more_paths : (q h : ℕ) (c : Circuit) (k : ℕ) (d : Op) (j i : ℕ) → k < length c → scaled_paths q h (take (k + 1) c) j i ≡ gathered (2 ^ q) (get_or c k d) i (scaled_paths q h (take k c) j)
-unfolding ways_through
-more_paths q h c k d j i less = ap (λ (w : Ways). w i j) (fold_more (λ (w : Ways) g. ways_through q w (entry g)) (scaled_stay h) c k d less)
+more_paths : (q h : ℕ) (c : Circuit) (k : ℕ) (d : Op) (j i : ℕ) → k < length c → root2 h (paths q (take (k + 1) c) i j) ≡ ways_after (2 ^ q) (get_or c k d) (λ i. root2 h (paths q (take k c) i j)) i
+unfolding paths ways_along ways_through
+more_paths q h c k d j i less =
+    ap (λ (w : Ways). root2 h (w i j)) (fold_more (λ (w : Ways) g. ways_through q w (entry g)) identity_ways c k d less) ∙
+    root2-ways_through h q (paths q (take k c)) (get_or c k d) i j
 
 -- a column of the circuit with one gate more
-pub column_step : (q h : ℕ) (c : Circuit) (k : ℕ) (d : Op) (j : ℕ) (old new : List Terms) → q ≤ 3 → IsOn q 0 c → k < length c → IsColumn (2 ^ q) (k + h) (scaled_paths q h (take k c) j) old → IsNextColumn (2 ^ q) (get_or c k d) old new → IsColumn (2 ^ q) (k + 1 + h) (scaled_paths q h (take (k + 1) c) j) new
-column_step q h c k d j old new small on less before next =
-    let plain = each_at (IsPlain q) c k d on less in
-    let after = next_column q (k + h) (get_or c k d) (scaled_paths q h (take k c) j) old new small plain before next in
+pub column_step : (q h : ℕ) (c : Circuit) (k : ℕ) (d : Op) (j : ℕ) (old new : List Terms) → k < length c → IsColumn (2 ^ q) (k + h) (λ i. root2 h (paths q (take k c) i j)) old → IsNextColumn (2 ^ q) (get_or c k d) old new → IsColumn (2 ^ q) (k + 1 + h) (λ i. root2 h (paths q (take (k + 1) c) i j)) new
+column_step q h c k d j old new less before next =
+    let after = next (k + h) (λ i. root2 h (paths q (take k c) i j)) before in
     let bound : k + h + 1 ≡ k + 1 + h = omega arith in
-    let ways : (λ i. gathered (2 ^ q) (get_or c k d) i (scaled_paths q h (take k c) j)) ≡ scaled_paths q h (take (k + 1) c) j = (λ t i. sym (more_paths q h c k d j i less) t) in
-    subst (λ (w : ℕ → List Path). IsColumn (2 ^ q) (k + 1 + h) w new) ways (subst (λ n. IsColumn (2 ^ q) n (λ i. gathered (2 ^ q) (get_or c k d) i (scaled_paths q h (take k c) j)) new) bound after)
+    let ways : (λ i. root2 h (paths q (take (k + 1) c) i j)) ≡ ways_after (2 ^ q) (get_or c k d) (λ i. root2 h (paths q (take k c) i j)) = (λ t i. more_paths q h c k d j i less t) in
+    subst (λ (w : ℕ → List Path). IsColumn (2 ^ q) (k + 1 + h) w new) (sym ways) (subst (λ n. IsColumn (2 ^ q) n (ways_after (2 ^ q) (get_or c k d) (λ i. root2 h (paths q (take k c) i j))) new) bound after)
 
 -- four tests, grouped from the left or from the right
 regroup : (a b c d : Bool) → (a && (b && (c && d))) ≡ (((a && b) && c) && d)
@@ -109,14 +109,14 @@ root2-none zero = refl
 root2-none (suc h) = ap root2_once (root2-none h)
 
 -- the start of a column
-pub start_same : (h i j : ℕ) (ts : Terms) → i ≡ j → IsEntry h (root2 h (one_way false zero_exponent)) ts → IsEntry h (scaled_stay h i j) ts
+pub start_same : (h i j : ℕ) (ts : Terms) → i ≡ j → IsEntry h (root2 h (one_way false zero_exponent)) ts → IsEntry h (root2 h (identity_ways i j)) ts
 unfolding identity_ways
 start_same h i j ts same is =
     let test : (i == j) ≡ true = grind (arith, nat_tests) in
     subst (λ (b : Bool). IsEntry h (root2 h (way_if b (pos 1) zero_exponent)) ts) (sym test) is
 
 -- the start of a column in another row
-pub start_other : (h i j : ℕ) → i ≢ j → IsEntry h (scaled_stay h i j) []
+pub start_other : (h i j : ℕ) → i ≢ j → IsEntry h (root2 h (identity_ways i j)) []
 unfolding identity_ways
 start_other h i j apart =
     let test : (i == j) ≡ false = grind (arith, nat_tests) in

@@ -1,21 +1,23 @@
 -- Circuits are equivalent exactly where some monomial takes one matrix to the other.
-use Rattle.std.proofs.Common.{◌≡◌, ℕ, ◌^◌, ◌<◌, List, Bool, sym, ap, subst, ◌∙◌, arith}
+use Rattle.std.proofs.Common.{◌≡◌, ℕ, ◌^◌, ◌<◌, List, Bool, sym, subst, ◌∙◌, arith}
 use Rattle.std.specs.Prelude.{IsTrue, ◌↔◌}
 use Rattle.qz_circ.specs.Circuit.{Circuit}
 use Rattle.qz_circ.specs.Exponent.{Exponent}
-use Rattle.qz_circ.specs.Paths.{Ways, halves}
+use Rattle.qz_circ.specs.Paths.{Ways, paths, root2, halves}
 use Rattle.qz_circ.specs.Equivalence.{scaled_ways, SameUpTo, Equivalent}
 use Rattle.qz_ring.specs.Exponent.{Exponent as Monomial, IsExponent as IsMonomial, minus}
 use Rattle.qz_ring.specs.Terms.{Terms}
-use Rattle.qz_equiv.specs.Entries.{exponent_of, monomial_of, row, column, IsEntry, IsMatrix, paths_from, scaled_stay}
+use Rattle.qz_equiv.specs.Entries.{exponent_of, row, column, IsEntry, IsMatrix}
 use Rattle.qz_equiv.specs.Phases.{IsMatrixShift, HasPhase}
-use Rattle.qz_equiv.proofs.Starts.{scaled_ways-from}
+
+-- the exponent of a path sum as a monomial
+abbrev monomial_of : Exponent → Monomial
+monomial_of e = record { turn = e.turn; x0 = e.x0; x1 = e.x1; x2 = e.x2 }
 
 -- the matrix of a circuit has the scaled ways of it and another one
-pub scaled_matrix : (q n : ℕ) (c other : Circuit) (h : ℕ) (m : List (List Terms)) → h ≡ halves other → IsMatrix (2 ^ q) n (paths_from q (scaled_stay h) c) m → IsMatrix (2 ^ q) n (scaled_ways q c other) m
-scaled_matrix q n c other h m is matrix =
-    let ways : paths_from q (scaled_stay h) c ≡ scaled_ways q c other = (λ t i j. sym (scaled_ways-from q c other i j ∙ ap (λ k. paths_from q (scaled_stay k) c i j) (sym is)) t) in
-    subst (λ (w : Ways). IsMatrix (2 ^ q) n w m) ways matrix
+pub scaled_matrix : (q n : ℕ) (c other : Circuit) (h : ℕ) (m : List (List Terms)) → h ≡ halves other → IsMatrix (2 ^ q) n (λ i j. root2 h (paths q c i j)) m → IsMatrix (2 ^ q) n (scaled_ways q c other) m
+unfolding scaled_ways
+scaled_matrix q n c other h m is matrix = subst (λ k. IsMatrix (2 ^ q) n (λ i j. root2 k (paths q c i j)) m) is matrix
 
 -- the entry in a row and a column
 entry_at : (size n : ℕ) (ways : Ways) (m : List (List Terms)) (i j : ℕ) → IsMatrix size n ways m → i < size → j < size → IsEntry n (ways i j) (row (column m j) i)

@@ -3,6 +3,7 @@ pub mod Totals
 pub mod Starts
 pub mod EquivalenceLaws
 pub mod WorkedValues
+pub mod GateWays
 pub mod GatheredLemmas
 pub mod PushLemmas
 pub mod ColumnLemmas

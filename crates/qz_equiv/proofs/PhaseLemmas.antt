@@ -8,13 +8,17 @@ use Rattle.qz_ring.specs.Terms.{Term, Terms, count, coefficient_at, largest_reac
 use Rattle.qz_ring.proofs.Numbers.{unsigned_abs-add, unsigned_abs-neg}
 use Rattle.qz_ring.proofs.Order.{same_from_parts, same_exponent-decides}
 use Rattle.qz_equiv.specs.Entries.{row, column}
-use Rattle.qz_equiv.specs.Phases.{IsMatrixShift, HasPhase, IsZeroMatrix, IsPivot, FailsAt, SameShape}
+use Rattle.qz_equiv.specs.Phases.{IsMatrixShift, HasPhase, IsZeroMatrix, IsPivot, SameShape}
 
 -- the difference of two powers, as the code makes it, is their difference
 pub power_difference : (x y p q : ℤ) → x ≡ p → y ≡ q → unsigned_abs p ≤ 100 → unsigned_abs q ≤ 100 → to_z w64 (of_z w64 (to_z w64 (of_z w64 x) -ℤ to_z w64 (of_z w64 y))) ≡ p -ℤ q
 power_difference x y p q first second small_p small_q =
     let bound : unsigned_abs (p -ℤ q) ≤ 200 = omega (arith, unsigned_abs-add p (neg_ℤ q), unsigned_abs-neg q) in
     rw (first, second, to_z-of_z w64 p (fits_signed_from_abs w64 p (omega arith)), to_z-of_z w64 q (fits_signed_from_abs w64 q (omega arith)), to_z-of_z w64 (p -ℤ q) (fits_signed_from_abs w64 (p -ℤ q) (omega arith))) refl
+
+-- each power is at most as large as the largest
+pub powers_within : (e : Monomial) (n : ℕ) → reach_of e ≤ n → (unsigned_abs e.x0 ≤ n) × (unsigned_abs e.x1 ≤ n) × (unsigned_abs e.x2 ≤ n)
+powers_within e n h = (omega arith, omega arith, omega arith)
 
 -- a quotient's powers are at most as large as both powers together
 pub reach_of-minus : (a b : Monomial) → reach_of a ≤ 100 → reach_of b ≤ 100 → reach_of (minus a b) ≤ 200
@@ -85,6 +89,10 @@ minus_twice e u he hu = same_from_parts (minus e (minus e u)) u (omega arith) (o
 -- the same, through half a turn more and back
 minus_turned : (e u : Monomial) → IsMonomial e → IsMonomial u → with_turns (minus e (with_turns (minus e u) 256)) 256 ≡ u
 minus_turned e u he hu = same_from_parts (with_turns (minus e (with_turns (minus e u) 256)) 256) u (omega arith) (omega (arith, ints)) (omega (arith, ints)) (omega (arith, ints))
+
+-- neither monomial that takes the term at place k to the lead takes y to x
+abbrev pub FailsAt : Monomial → List (List Terms) → List (List Terms) → Terms → ℕ → Type 0
+FailsAt lead x y other k = (t : Term) → slice_get other k ≡ Some t → IsMatrixShift (minus lead t.exponent) x y ⊎ IsMatrixShift (with_turns (minus lead t.exponent) 256) x y → ⊥
 
 -- where every candidate fails, no monomial takes y to x
 pub no_phase : (lead : Monomial) (x y : List (List Terms)) (other : Terms) → IsMonomial lead → ((u : Monomial) → IsMonomial u → IsMatrixShift u x y → count other (minus lead u) ≢ pos 0) → ((k : ℕ) → k < length other → FailsAt lead x y other k) → HasPhase x y → ⊥

@@ -1,4 +1,4 @@
--- Paths from any start: times the square root of two before all gates or after them is the same.
+-- Times the square root of two, before one more gate or after it, is the same.
 use Rattle.std.proofs.Common.{◌≡◌, ℕ, zero, suc, ◌^◌, Bool, true, false, List, [], ◌∷◌, ◌++◌, sym, ap, ◌∙◌, refl, arith}
 use Rattle.std.specs.Prelude.{ℤ, pos, negsuc, ◌*ℤ◌, neg_ℤ, if◌then◌else◌}
 use Rattle.std.specs.List.{flat_map}
@@ -6,12 +6,11 @@ use Rattle.std.proofs.lemmas.Int.{ints}
 use Rattle.std.proofs.lemmas.List.Concat.{flat_map-append}
 use Rattle.qz_circ.specs.declared.circuit.Op.{Op}
 use Rattle.qz_circ.specs.declared.circuit.Op.TheVariants.{H, X, Cx, Rz}
-use Rattle.qz_circ.specs.Circuit.{Circuit, below}
+use Rattle.qz_circ.specs.Circuit.{below}
 use Rattle.qz_circ.specs.Exponent.{Exponent, plus, with_turns}
-use Rattle.qz_circ.specs.Paths.{Path, Ways, products, way_if, entry, ways_through, identity_ways, ways_along, paths, root2_once, root2, halves}
-use Rattle.qz_circ.specs.Equivalence.{scaled_ways}
+use Rattle.qz_circ.specs.Paths.{Path, Ways, products, way_if, entry, ways_through, root2_once, root2}
 use Rattle.qz_equiv.proofs.Exponents.{exponent_eq}
-use Rattle.qz_equiv.specs.Entries.{sign_of, one_way, paths_from, scaled_stay}
+use Rattle.qz_equiv.specs.Entries.{sign_of, one_way}
 
 -- a sign and an exponent, or no way
 pub data Through (ps : List Path) : Type 0 where
@@ -100,20 +99,8 @@ root2_once-ways_through : (q : ℕ) (w : Ways) (g : Op) (i j : ℕ) → root2_on
 unfolding ways_through
 root2_once-ways_through q w g i j = root2_once-pieces w g i j (below (2 ^ q))
 
--- times the square root of two, before all gates or after them
-root2_once-paths_from : (q : ℕ) (w : Ways) (c : Circuit) (i j : ℕ) → root2_once (paths_from q w c i j) ≡ paths_from q (λ i j. root2_once (w i j)) c i j
-root2_once-paths_from q w [] i j = refl
-root2_once-paths_from q w (g ∷ c) i j =
-    root2_once-paths_from q (ways_through q w (entry g)) c i j ∙
-    ap (λ (start : Ways). paths_from q start c i j) (λ t k l. root2_once-ways_through q w g k l t)
-
--- times the square root of two before all gates or after them
-pub root2-paths_from : (h q : ℕ) (w : Ways) (c : Circuit) (i j : ℕ) → root2 h (paths_from q w c i j) ≡ paths_from q (λ i j. root2 h (w i j)) c i j
+-- times the square root of two as often as the number says, before one more gate or after it
+pub root2-ways_through : (h q : ℕ) (w : Ways) (g : Op) (i j : ℕ) → root2 h (ways_through q w (entry g) i j) ≡ ways_through q (λ i j. root2 h (w i j)) (entry g) i j
 unfolding root2
-root2-paths_from zero q w c i j = refl
-root2-paths_from (suc h) q w c i j = ap root2_once (root2-paths_from h q w c i j) ∙ root2_once-paths_from q (λ i j. root2 h (w i j)) c i j
-
--- the scaled ways are those from a scaled start
-pub scaled_ways-from : (q : ℕ) (c other : Circuit) (i j : ℕ) → scaled_ways q c other i j ≡ paths_from q (scaled_stay (halves other)) c i j
-unfolding scaled_ways paths ways_along
-scaled_ways-from q c other i j = root2-paths_from (halves other) q identity_ways c i j
+root2-ways_through zero q w g i j = refl
+root2-ways_through (suc h) q w g i j = ap root2_once (root2-ways_through h q w g i j) ∙ root2_once-ways_through q (λ i j. root2 h (w i j)) g i j

@@ -1,9 +1,9 @@
 -- When one matrix is a monomial times another, and the monomials that can be.
-use Rattle.std.specs.Prelude.{◌≡◌, ◌≢◌, ℕ, ◌<◌, ◌≤◌, ◌⊎◌, List, [], length, pos, Some, slice_get}
-use Rattle.qz_ring.specs.Exponent.{Exponent as Monomial, IsExponent as IsMonomial, minus, with_turns, reach_of}
-use Rattle.qz_ring.specs.Terms.{Term, Terms, count, largest_reach}
+use Rattle.std.specs.Prelude.{◌≡◌, ◌≢◌, ℕ, ◌<◌, ◌≤◌, List, [], length, pos}
+use Rattle.qz_ring.specs.Exponent.{Exponent as Monomial, IsExponent as IsMonomial, reach_of}
+use Rattle.qz_ring.specs.Terms.{Terms, count, largest_reach}
 use Rattle.qz_ring.specs.Counts.{IsTimesMonomial}
-use Rattle.qz_equiv.specs.Entries.{row, column}
+use Rattle.qz_equiv.specs.Entries.{row, column, PowersAtMost}
 
 -- each entry of x is the monomial times that of y
 abbrev pub IsColumnShift : Monomial → List Terms → List Terms → Type 0
@@ -13,15 +13,15 @@ IsColumnShift by x y = (i : ℕ) → i < length x → IsTimesMonomial by (row y 
 abbrev pub IsMatrixShift : Monomial → List (List Terms) → List (List Terms) → Type 0
 IsMatrixShift by x y = (j : ℕ) → j < length x → IsColumnShift by (column x j) (column y j)
 
--- some monomial takes y to x
+-- x is some monomial times y
 abbrev pub HasPhase : List (List Terms) → List (List Terms) → Type 0
 HasPhase x y = (u : Monomial) × IsMonomial u × IsMatrixShift u x y
 
--- the exponent is one that the terms count
-pub record IsLead (ts : Terms) (lead : Monomial) : Type 0 where
-  pub proper : IsMonomial lead
-  pub counted : count ts lead ≢ pos 0
-  pub reach : reach_of lead ≤ largest_reach ts
+-- the sum counts the exponent, which has a turn below 512 and no power greater than the largest in the sum
+pub record IsCountedExponent (ts : Terms) (e : Monomial) : Type 0 where
+  pub proper : IsMonomial e
+  pub counted : count ts e ≢ pos 0
+  pub reach : reach_of e ≤ largest_reach ts
 
 -- every entry of the column is zero
 abbrev pub IsZeroColumn : List Terms → Type 0
@@ -33,23 +33,15 @@ IsZeroMatrix matrix = (j : ℕ) → j < length matrix → IsZeroColumn (column m
 
 -- a row of the column, and an exponent that its entry counts
 abbrev pub IsPivotOfColumn : List Terms → ℕ × Monomial → Type 0
-IsPivotOfColumn entries found = (found.0 < length entries) × IsLead (row entries found.0) found.1
+IsPivotOfColumn entries found = (found.0 < length entries) × IsCountedExponent (row entries found.0) found.1
 
 -- a column, a row of it, and an exponent that the entry there counts
 abbrev pub IsPivot : List (List Terms) → ℕ × ℕ × Monomial → Type 0
 IsPivot matrix found = (found.0 < length matrix) × IsPivotOfColumn (column matrix found.0) (found.1, found.2)
 
--- neither monomial that takes the term at place k to the lead takes y to x
-abbrev pub FailsAt : Monomial → List (List Terms) → List (List Terms) → Terms → ℕ → Type 0
-FailsAt lead x y other k = (t : Term) → slice_get other k ≡ Some t → IsMatrixShift (minus lead t.exponent) x y ⊎ IsMatrixShift (with_turns (minus lead t.exponent) 256) x y → ⊥
-
--- the powers in the column are small
-abbrev pub IsLow : List Terms → Type 0
-IsLow entries = (i : ℕ) → i < length entries → largest_reach (row entries i) ≤ 100
-
--- the powers in the matrix are small
-abbrev pub AreLow : List (List Terms) → Type 0
-AreLow matrix = (j : ℕ) → j < length matrix → IsLow (column matrix j)
+-- no power in the matrix is greater than this in absolute value
+abbrev pub MatrixPowersAtMost : ℕ → List (List Terms) → Type 0
+MatrixPowersAtMost most matrix = (j : ℕ) → j < length matrix → PowersAtMost most (column matrix j)
 
 -- both matrices have as many columns, and as many rows in each
 pub record SameShape (x y : List (List Terms)) : Type 0 where

@@ -1,12 +1,20 @@
 //! The ways through one gate.
-ghost use Rattle.std.specs.Prelude.{◌≡◌, ◌<◌, ◌≤◌, IfSome};
+ghost use Rattle.std.specs.Prelude.{◌≡◌, ◌<◌, ◌≤◌, pos, ◌+ℤ◌, ◌≤ℤ◌};
 ghost use Rattle.qz_circ.specs.declared.circuit.Op.TheVariants.{H, X, Cx, Rz};
-ghost use Rattle.qz_circ.specs.Circuit.{AngleHasBelow};
-ghost use Rattle.qz_circ.specs.Exponent.{angle_exponent};
+ghost use Rattle.qz_circ.specs.Circuit.{ActsBelow};
+ghost use Rattle.qz_circ.specs.Exponent.{zero_exponent, angle_exponent, unit_at};
 ghost use Rattle.qz_circ.specs.Paths.{entry, has_bit as bit_of, flipped_state as flip_of, way_if as one_if};
-ghost use Rattle.qz_equiv.specs.Entries.{IsPlain, ways_of, sign_of, turn_alone};
+ghost use Rattle.qz_equiv.specs.Entries.{exponent_of, sign_of, ways_of};
 
 use qz_circ::{Expr, Op};
+use qz_ring::Exponent;
+
+/// One way through a gate: whether its sign is -1, and its exponent.
+#[derive(Drop)]
+pub(crate) struct Way {
+    pub negated: bool,
+    pub exponent: Exponent,
+}
 
 // Whether qubit t of the state is 1.
 fn has_bit(t: u8, state: u64) -> bool
@@ -24,81 +32,119 @@ fn flipped_state(t: u8, state: u64) -> u64
     state ^ (1 << t)
 }
 
-// The turn of an angle without parameters.
-fn turn_of(angle: Expr) -> u16
-    requires { AngleHasBelow 0 angle }
-    ensures exponent { angle_exponent angle ≡ turn_alone result }
-    ensures turn { result < 512 }
+// 1 at the parameter with this number, and 0 at the others.
+fn power_at(i: u8, k: u8) -> i64
+    ensures value { result ≡ unit_at i k }
+    ensures least { pos 0 ≤ℤ result }
+    ensures most { result ≤ℤ pos 1 }
+{
+    if i == k { 1 } else { 0 }
+}
+
+// What the sum of two parameters has at the parameter with this number.
+fn sum_at(i: u8, j: u8, k: u8) -> i64
+    ensures { result ≡ unit_at i k +ℤ unit_at j k }
+{
+    power_at(i, k) + power_at(j, k)
+}
+
+// The exponent of an angle.
+fn exponent_of_angle(angle: Expr) -> Exponent
+    ensures { angle_exponent angle ≡ exponent_of result }
 {
     match angle {
-        Expr::Const(t) => 64 * (t as u16) % 512,
-        Expr::Plus(_) | Expr::Minus(_) | Expr::Sum(_, _) => 0,
+        Expr::Const(t) => Exponent {
+            turn: 64 * (t as u16) % 512,
+            powers: [0; 3],
+        },
+        Expr::Plus(i) => Exponent {
+            turn: 0,
+            powers: [power_at(i, 0), power_at(i, 1), power_at(i, 2)],
+        },
+        Expr::Minus(i) => Exponent {
+            turn: 0,
+            powers: [-power_at(i, 0), -power_at(i, 1), -power_at(i, 2)],
+        },
+        Expr::Sum(i, j) => Exponent {
+            turn: 0,
+            powers: [sum_at(i, j, 0), sum_at(i, j, 1), sum_at(i, j, 2)],
+        },
     }
 }
 
-// The way with this sign and turn where the test holds.
-fn way_if(there: bool, negated: bool, turn: u16) -> Option<(bool, u16)>
-    requires { turn < 512 }
-    ensures ways { ways_of result ≡ one_if there (sign_of negated) (turn_alone turn) }
-    ensures turn { IfSome result (λ way. way.1 < 512) }
+// The exponent of 1.
+fn no_exponent() -> Exponent
+    ensures { exponent_of result ≡ zero_exponent }
 {
-    if there { Some((negated, turn)) } else { None }
+    Exponent {
+        turn: 0,
+        powers: [0; 3],
+    }
+}
+
+// The way with this sign and exponent where the test holds.
+fn way_if(there: bool, negated: bool, exponent: Exponent) -> Option<Way>
+    ensures { ways_of result ≡ one_if there (sign_of negated) (exponent_of exponent) }
+{
+    if there {
+        Some(Way { negated, exponent })
+    } else {
+        None
+    }
 }
 
 #[tactic(auto, unfolding(qz_circ::specs::Paths::entry))]
-fn way_through_h(t: u8, i: u64, k: u64) -> Option<(bool, u16)>
+fn way_through_h(t: u8, i: u64, k: u64) -> Option<Way>
     requires { t < 3 }
-    ensures ways { entry (H t) i k ≡ ways_of result }
-    ensures turn { IfSome result (λ way. way.1 < 512) }
+    ensures { entry (H t) i k ≡ ways_of result }
 {
     way_if(
         i == k || i == flipped_state(t, k),
         has_bit(t, i) && has_bit(t, k),
-        0,
+        no_exponent(),
     )
 }
 
 #[tactic(auto, unfolding(qz_circ::specs::Paths::entry))]
-fn way_through_x(t: u8, i: u64, k: u64) -> Option<(bool, u16)>
+fn way_through_x(t: u8, i: u64, k: u64) -> Option<Way>
     requires { t < 3 }
-    ensures ways { entry (X t) i k ≡ ways_of result }
-    ensures turn { IfSome result (λ way. way.1 < 512) }
+    ensures { entry (X t) i k ≡ ways_of result }
 {
-    way_if(i == flipped_state(t, k), false, 0)
+    way_if(i == flipped_state(t, k), false, no_exponent())
 }
 
 #[tactic(auto, unfolding(qz_circ::specs::Paths::entry))]
-fn way_through_cx(c: u8, t: u8, i: u64, k: u64) -> Option<(bool, u16)>
+fn way_through_cx(c: u8, t: u8, i: u64, k: u64) -> Option<Way>
     requires control { c < 3 }
     requires target { t < 3 }
-    ensures ways { entry (Cx c t) i k ≡ ways_of result }
-    ensures turn { IfSome result (λ way. way.1 < 512) }
+    ensures { entry (Cx c t) i k ≡ ways_of result }
 {
     let to = if has_bit(c, k) {
         flipped_state(t, k)
     } else {
         k
     };
-    way_if(i == to, false, 0)
+    way_if(i == to, false, no_exponent())
 }
 
 #[tactic(auto, unfolding(qz_circ::specs::Paths::entry))]
-fn way_through_rz(t: u8, angle: Expr, i: u64, k: u64) -> Option<(bool, u16)>
-    requires qubit { t < 3 }
-    requires angle { AngleHasBelow 0 angle }
-    ensures ways { entry (Rz t angle) i k ≡ ways_of result }
-    ensures turn { IfSome result (λ way. way.1 < 512) }
+fn way_through_rz(t: u8, angle: Expr, i: u64, k: u64) -> Option<Way>
+    requires { t < 3 }
+    ensures { entry (Rz t angle) i k ≡ ways_of result }
 {
-    let turn = if has_bit(t, i) { turn_of(angle) } else { 0 };
-    way_if(i == k, false, turn)
+    let exponent = if has_bit(t, i) {
+        exponent_of_angle(angle)
+    } else {
+        no_exponent()
+    };
+    way_if(i == k, false, exponent)
 }
 
-// The way through the gate to the state i from the state k, if there is one: whether its sign is -1, and its turn.
-pub(crate) fn way(q: u64, g: Op, i: u64, k: u64) -> Option<(bool, u16)>
+/// The way through the gate to the state i from the state k, if there is one.
+pub(crate) fn way_through(q: u64, g: Op, i: u64, k: u64) -> Option<Way>
     requires qubits { q ≤ 3 }
-    requires plain { IsPlain q g }
-    ensures ways { entry g i k ≡ ways_of result }
-    ensures turn { IfSome result (λ way. way.1 < 512) }
+    requires gate { ActsBelow q g }
+    ensures { entry g i k ≡ ways_of result }
 {
     match g {
         Op::H(t) => way_through_h(t, i, k),

@@ -1,15 +1,15 @@
 //! Matrices of circuits, with sums of monomials as entries, times a power of √2.
-ghost use Rattle.std.specs.Prelude.{◌≡◌, ◌+◌, ◌^◌, ◌<◌, ◌≤◌, false, [], length, max, ◌+ℤ◌, IfOk, OnOk, IfSome};
-ghost use Rattle.qz_circ.specs.Circuit.{IsOn};
+ghost use Rattle.std.specs.Prelude.{◌≡◌, ◌+◌, ◌^◌, ◌<◌, ◌≤◌, false, [], length, IfOk, OnOk, IfSome, MatchOption};
+ghost use Rattle.qz_circ.specs.Circuit.{ActsBelow, HasBelow, IsOn};
 ghost use Rattle.qz_circ.specs.Exponent.{zero_exponent};
-ghost use Rattle.qz_circ.specs.Paths.{root2};
-ghost use Rattle.qz_ring.specs.Exponent.{Exponent as Monomial, IsExponent as IsMonomial, minus, turn_alone};
-ghost use Rattle.qz_ring.specs.Terms.{signed, count, weight_of, largest_reach};
-ghost use Rattle.qz_equiv.specs.Entries.{one_way, ways_of, row, column as column_of, paths_from, scaled_stay, scaled_paths, IsEntry, IsColumn, IsMatrix, IsLight, IsPlain, AddsWay, IsGathered, IsNextColumn};
+ghost use Rattle.qz_circ.specs.Paths.{identity_ways, paths, root2};
+ghost use Rattle.qz_ring.specs.Exponent.{reach_of};
+ghost use Rattle.qz_ring.specs.Terms.{weight_of, largest_reach};
+ghost use Rattle.qz_equiv.specs.Entries.{one_way, row, column as column_of, IsEntry, IsColumn, IsMatrix, WeightsAtMost, PowersAtMost, AddsWay, IsNextEntry, IsNextColumn};
 
-use crate::gate_way::way;
+use crate::gate_way::{Way, way_through};
 use qz_circ::Op;
-use qz_ring::{Elem, Exponent, Memory};
+use qz_ring::{Elem, Memory};
 use std::alloc::Global;
 use std::marker::Model;
 
@@ -45,41 +45,35 @@ impl Column {
     }
 }
 
-// Adds the part times a power of ζ, or subtracts it.
-#[tactic(auto, using(qz_ring::proofs::Sums::reach_times_le))]
-fn add_turned(sum: &mut Elem, part: &Elem, negated: bool, turn: u16) -> Result<(), Memory>
-    requires turn { turn < 512 }
+// Adds the part times the way's monomial, or subtracts it where the way is negated.
+fn add_times(sum: &mut Elem, part: &Elem, way: Way) -> Result<(), Memory>
     requires weight { weight_of sum.old + weight_of part.now ≤ 2 ^ 120 }
-    requires reach { largest_reach part.now ≤ 100 }
-    ensures counts { OnOk result ((e : Monomial) → IsMonomial e → count sum.new e ≡ count sum.old e +ℤ signed negated (count part.now (minus e (turn_alone turn)))) }
-    ensures weight { OnOk result (weight_of sum.new ≤ weight_of sum.old + weight_of part.now) }
-    ensures reach { OnOk result (largest_reach sum.new ≤ max (largest_reach sum.old) (largest_reach part.now)) }
+    requires reach { largest_reach part.now + reach_of way.exponent ≤ 2 ^ 40 }
+    ensures { OnOk result (AddsWay part.now way sum.old sum.new) }
 {
-    let mut turned = part.copy()?;
-    turned.shift(Exponent {
-        turn,
-        powers: [0; 3],
-    });
-    if negated {
-        sum.sub(&turned)
-    } else {
-        sum.add(&turned)
+    let mut times = part.copy()?;
+    times.shift(way.exponent);
+    if way.negated {
+        sum.sub(&times)?;
+        return Ok(());
     }
+    sum.add(&times)?;
+    Ok(())
 }
 
 // Adds the part after the way, if there is one. A part that is zero adds nothing.
-fn add_way(sum: &mut Elem, part: &Elem, way: Option<(bool, u16)>) -> Result<(), Memory>
-    requires turn { IfSome way (λ w. w.1 < 512) }
+fn add_way(sum: &mut Elem, part: &Elem, way: Option<Way>) -> Result<(), Memory>
     requires weight { weight_of sum.old + weight_of part.now ≤ 2 ^ 120 }
-    requires reach { largest_reach part.now ≤ 100 }
-    ensures { OnOk result (AddsWay part.now (ways_of way) sum.old sum.new) }
+    requires part_powers { largest_reach part.now ≤ 100 }
+    requires way_powers { IfSome way (λ w. reach_of w.exponent ≤ 1) }
+    ensures { OnOk result (MatchOption way (sum.new ≡ sum.old) (λ w. AddsWay part.now w sum.old sum.new)) }
 {
     match way {
-        Some((negated, turn)) => {
+        Some(way) => {
             if part.is_zero() {
                 return Ok(());
             }
-            add_turned(sum, part, negated, turn)?;
+            add_times(sum, part, way)?;
             Ok(())
         }
         None => Ok(()),
@@ -89,14 +83,20 @@ fn add_way(sum: &mut Elem, part: &Elem, way: Option<(bool, u16)>) -> Result<(), 
 // The entry in a row after one more gate.
 fn next_entry(alloc: Global, q: u64, g: Op, i: usize, old: &Column) -> Result<Elem, Memory>
     requires qubits { q ≤ 3 }
-    requires plain { IsPlain q g }
+    requires gate { ActsBelow q g }
+    requires parameters { HasBelow 3 g }
     requires rows { length old.now ≡ 2 ^ q }
-    requires light { IsLight old.now }
-    ensures { IfOk result (IsGathered (2 ^ q) g i old.now (2 ^ q)) }
+    requires weights { WeightsAtMost (2 ^ 100) old.now }
+    requires powers { PowersAtMost 100 old.now }
+    ensures { IfOk result (IsNextEntry (2 ^ q) g i old.now) }
 {
     let mut sum = Elem::zero(alloc);
     for k in 0..old.rows() {
-        add_way(&mut sum, old.entry(k), way(q, g, i as u64, k as u64))?;
+        add_way(
+            &mut sum,
+            old.entry(k),
+            way_through(q, g, i as u64, k as u64),
+        )?;
     }
     Ok(sum)
 }
@@ -104,9 +104,11 @@ fn next_entry(alloc: Global, q: u64, g: Op, i: usize, old: &Column) -> Result<El
 // The column after one more gate.
 fn next_column(alloc: Global, q: u64, g: Op, old: &Column) -> Result<Column, Memory>
     requires qubits { q ≤ 3 }
-    requires plain { IsPlain q g }
+    requires gate { ActsBelow q g }
+    requires parameters { HasBelow 3 g }
     requires rows { length old.now ≡ 2 ^ q }
-    requires light { IsLight old.now }
+    requires weights { WeightsAtMost (2 ^ 100) old.now }
+    requires powers { PowersAtMost 100 old.now }
     ensures { IfOk result (IsNextColumn (2 ^ q) g old.now) }
 {
     let Ok(mut entries) = Vec::with_capacity(alloc, old.rows()) else {
@@ -133,7 +135,7 @@ fn power_of_root2(alloc: Global, h: u64) -> Result<Elem, Memory>
 // The entry of no gate in row i and column j, times a power of the square root of 2.
 fn start_entry(alloc: Global, h: u64, i: usize, j: usize) -> Result<Elem, Memory>
     requires { h ≤ 100 }
-    ensures { IfOk result (IsEntry h (scaled_stay h i j)) }
+    ensures { IfOk result (IsEntry h (root2 h (identity_ways i j))) }
 {
     if i != j {
         return Ok(Elem::zero(alloc));
@@ -143,10 +145,11 @@ fn start_entry(alloc: Global, h: u64, i: usize, j: usize) -> Result<Elem, Memory
 }
 
 // The column of no gate, times a power of the square root of 2.
+#[tactic(auto, unfolding(qz_circ::specs::Paths::paths, qz_circ::specs::Paths::ways_along))]
 fn start_column(alloc: Global, q: u64, h: u64, j: usize) -> Result<Column, Memory>
     requires qubits { q ≤ 3 }
     requires powers { h ≤ 100 }
-    ensures { IfOk result (IsColumn (2 ^ q) h (scaled_paths q h [] j)) }
+    ensures { IfOk result (IsColumn (2 ^ q) h (λ i. root2 h (paths q [] i j))) }
 {
     let rows = 1 << q;
     let Ok(mut entries) = Vec::with_capacity(alloc, rows) else {
@@ -161,9 +164,9 @@ fn start_column(alloc: Global, q: u64, h: u64, j: usize) -> Result<Column, Memor
 // The column of a circuit, times a power of the square root of 2.
 fn column_of_circuit(alloc: Global, q: u64, c: &[Op], h: u64, j: usize) -> Result<Column, Memory>
     requires qubits { q ≤ 3 }
-    requires gates { IsOn q 0 c.now }
+    requires gates { IsOn q 3 c.now }
     requires short { length c.now + h ≤ 100 }
-    ensures { IfOk result (IsColumn (2 ^ q) (length c.now + h) (scaled_paths q h c.now j)) }
+    ensures { IfOk result (IsColumn (2 ^ q) (length c.now + h) (λ i. root2 h (paths q c.now i j))) }
 {
     let mut column = start_column(alloc, q, h, j)?;
     for g in c {
@@ -191,9 +194,9 @@ impl Matrix {
     /// The matrix of a circuit on q qubits, times the square root of 2 for each of its H and as often as h says.
     pub(crate) fn of(alloc: Global, q: u64, c: &[Op], h: u64) -> Result<Matrix, Memory>
         requires qubits { q ≤ 3 }
-        requires gates { IsOn q 0 c.now }
+        requires gates { IsOn q 3 c.now }
         requires short { length c.now + h ≤ 100 }
-        ensures { IfOk result (IsMatrix (2 ^ q) (length c.now + h) (paths_from q (scaled_stay h) c.now)) }
+        ensures { IfOk result (IsMatrix (2 ^ q) (length c.now + h) (λ i j. root2 h (paths q c.now i j))) }
     {
         let size = 1 << q;
         let Ok(mut columns) = Vec::with_capacity(alloc, size) else {

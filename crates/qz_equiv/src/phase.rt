@@ -3,16 +3,15 @@ ghost use Rattle.std.specs.Prelude.{◌≡◌, ◌≢◌, ◌↔◌, ◌+◌, �
 ghost use Rattle.qz_ring.specs.Exponent.{Exponent as Monomial, IsExponent as IsMonomial, minus, with_turns, reach_of};
 ghost use Rattle.qz_ring.specs.Terms.{count, largest_reach};
 ghost use Rattle.qz_ring.specs.Counts.{IsTimesMonomial};
-ghost use Rattle.qz_equiv.specs.Entries.{row, column};
-ghost use Rattle.qz_equiv.specs.Phases.{IsColumnShift, IsMatrixShift, HasPhase, IsLead, IsZeroColumn, IsPivotOfColumn, IsZeroMatrix, IsPivot, IsLow, AreLow, SameShape};
+ghost use Rattle.qz_equiv.specs.Entries.{row, column, PowersAtMost};
+ghost use Rattle.qz_equiv.specs.Phases.{IsColumnShift, IsMatrixShift, HasPhase, IsCountedExponent, IsZeroColumn, IsPivotOfColumn, IsZeroMatrix, IsPivot, MatrixPowersAtMost, SameShape};
 
 use crate::matrix::{Column, Matrix};
 use qz_ring::{Elem, Exponent, Memory};
 
 // Whether x is the monomial times y.
-#[tactic(auto, using(qz_ring::proofs::Sums::reach_times_le))]
 fn same_entry(x: &Elem, y: &Elem, by: Exponent) -> Result<bool, Memory>
-    requires low { largest_reach y.now ≤ 100 }
+    requires powers { largest_reach y.now ≤ 100 }
     requires reach { reach_of by ≤ 200 }
     ensures { IfOk result (λ same. IsTrue same ↔ IsTimesMonomial by y.now x.now) }
 {
@@ -24,7 +23,7 @@ fn same_entry(x: &Elem, y: &Elem, by: Exponent) -> Result<bool, Memory>
 // Whether each entry of x is the monomial times that of y.
 fn same_column(x: &Column, y: &Column, by: Exponent) -> Result<bool, Memory>
     requires rows { length x.now ≡ length y.now }
-    requires low { IsLow y.now }
+    requires powers { PowersAtMost 100 y.now }
     requires reach { reach_of by ≤ 200 }
     ensures { IfOk result (λ same. IsTrue same ↔ IsColumnShift by x.now y.now) }
 {
@@ -39,7 +38,7 @@ fn same_column(x: &Column, y: &Column, by: Exponent) -> Result<bool, Memory>
 // Whether each column of x is the monomial times that of y.
 fn same_matrix(x: &Matrix, y: &Matrix, by: Exponent) -> Result<bool, Memory>
     requires shape { SameShape x.now y.now }
-    requires low { AreLow y.now }
+    requires powers { MatrixPowersAtMost 100 y.now }
     requires reach { reach_of by ≤ 200 }
     ensures { IfOk result (λ same. IsTrue same ↔ IsMatrixShift by x.now y.now) }
 {
@@ -66,7 +65,7 @@ fn quotient_of(a: Exponent, b: Exponent) -> Exponent
 }
 
 // The exponent with half a turn more.
-fn half_turned(e: Exponent) -> Exponent
+fn half_turn_more(e: Exponent) -> Exponent
     ensures value { result ≡ with_turns e 256 }
     ensures reach { reach_of result ≡ reach_of e }
 {
@@ -80,20 +79,20 @@ fn half_turned(e: Exponent) -> Exponent
 // Whether x is the monomial times y, or is so with half a turn more.
 fn same_either_way(x: &Matrix, y: &Matrix, by: Exponent) -> Result<bool, Memory>
     requires shape { SameShape x.now y.now }
-    requires low { AreLow y.now }
+    requires powers { MatrixPowersAtMost 100 y.now }
     requires reach { reach_of by ≤ 200 }
     ensures { IfOk result (λ same. IsTrue same ↔ (IsMatrixShift by x.now y.now ⊎ IsMatrixShift (with_turns by 256) x.now y.now)) }
 {
     if same_matrix(x, y, by)? {
         return Ok(true);
     }
-    let same = same_matrix(x, y, half_turned(by))?;
+    let same = same_matrix(x, y, half_turn_more(by))?;
     Ok(same)
 }
 
 // The first exponent of an entry that isn't zero.
 fn lead_of(entry: &Elem) -> Option<Exponent>
-    ensures { MatchOption result (entry.now ≡ []) (IsLead entry.now) }
+    ensures { MatchOption result (entry.now ≡ []) (IsCountedExponent entry.now) }
 {
     match entry.leading() {
         Some(term) => Some(term.0),
@@ -128,10 +127,10 @@ fn pivot(matrix: &Matrix) -> Option<(usize, usize, Exponent)>
 // Whether x is y times a monomial that takes one of the other entry's exponents to the lead, up to a sign.
 fn has_candidate(x: &Matrix, y: &Matrix, lead: Exponent, other: &Elem) -> Result<bool, Memory>
     requires shape { SameShape x.now y.now }
-    requires low { AreLow y.now }
+    requires powers { MatrixPowersAtMost 100 y.now }
     requires lead_proper { IsMonomial lead }
-    requires lead_low { reach_of lead ≤ 100 }
-    requires other_low { largest_reach other.now ≤ 100 }
+    requires lead_powers { reach_of lead ≤ 100 }
+    requires other_powers { largest_reach other.now ≤ 100 }
     requires counted { (u : Monomial) → IsMonomial u → IsMatrixShift u x.now y.now → count other.now (minus lead u) ≢ pos 0 }
     ensures { IfOk result (λ found. IsTrue found ↔ HasPhase x.now y.now) }
 {
@@ -147,8 +146,8 @@ fn has_candidate(x: &Matrix, y: &Matrix, lead: Exponent, other: &Elem) -> Result
 /// Whether some monomial takes the second matrix to the first.
 pub(crate) fn same_up_to_phase(x: &Matrix, y: &Matrix) -> Result<bool, Memory>
     requires shape { SameShape x.now y.now }
-    requires first_low { AreLow x.now }
-    requires second_low { AreLow y.now }
+    requires first_powers { MatrixPowersAtMost 100 x.now }
+    requires second_powers { MatrixPowersAtMost 100 y.now }
     ensures { IfOk result (λ same. IsTrue same ↔ HasPhase x.now y.now) }
 {
     match pivot(x) {

@@ -5,7 +5,7 @@ use borrow.Author.Count.{below_more}
 use Rattle.qz_equiv.proofs.phase.has_candidate.Goals as goal
 
 pub quotient_of-requires-clause-second : goal.quotient_of-requires-clause-second
-quotient_of-requires-clause-second c = omega (arith, reach_at c.args.other.now c.loop-k.k _ c.term-term.ensures.value, c.requires.other_low)
+quotient_of-requires-clause-second c = omega (arith, reach_at c.args.other.now c.loop-k.k _ c.term-term.ensures.value, c.requires.other_powers)
 
 pub returns-then-branch : goal.returns-then-branch
 returns-then-branch c =

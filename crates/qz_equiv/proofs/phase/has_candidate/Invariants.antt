@@ -1,5 +1,5 @@
 use Rattle.std.proofs.Common.{ℕ, ◌<◌}
-use Rattle.qz_equiv.specs.Phases.{FailsAt}
+use Rattle.qz_equiv.proofs.PhaseLemmas.{FailsAt}
 use Rattle.qz_equiv.proofs.phase.has_candidate.Given as goal
 
 abbrev pub invariant-loop-k : goal.invariant-loop-k
