@@ -1,5 +1,6 @@
 pub mod Sink
 pub mod MemSink
+pub mod StdSink
 pub mod Words
 pub mod RuleText
 pub mod Command

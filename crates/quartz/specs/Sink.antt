@@ -1,5 +1,5 @@
 -- What a sink tells of its content, and how its counts rise.
-use Rattle.std.specs.Prelude.{◌≡◌, ℕ, ◌+◌, ◌<◌, ◌≤◌, ◌⊎◌, min, List, ◌++◌, take, Option, Some, None}
+use Rattle.std.specs.Prelude.{◌≡◌, ℕ, ◌+◌, ◌<◌, ◌⊎◌, min, List, ◌++◌, take, Option, Some, None}
 
 -- the last value of a count, at which it stands still: 2 ^ 64 - 1
 abbrev pub last_count : ℕ
@@ -9,9 +9,9 @@ last_count = 18446744073709551615
 abbrev pub counted : ℕ → ℕ
 counted n = min (n + 1) last_count
 
--- the count rose, or stands at its last value
+-- the count is greater, or stands at its last value
 abbrev pub Rose : ℕ → ℕ → Type 0
-Rose before after = (before < after) ⊎ (last_count ≤ after)
+Rose before after = (before < after) ⊎ (after ≡ last_count)
 
 -- what is told after these bytes more; where nothing is told, nothing is told then
 abbrev pub grown : Option (List ℕ) → List ℕ → Option (List ℕ)

@@ -29,6 +29,7 @@ fn write_rules<O: Sink>(alloc: Global, b: Bounds, out: &mut O) -> Status
     ensures write_fault { result ≡ Status.WriteFault → WritesPart b (O.written out.old) (O.written out.new) }
     ensures memory { result ≡ Status.Memory → (O.written out.new ≡ O.written out.old) ⊎ WritesPart b (O.written out.old) (O.written out.new) }
     ensures failed { result ≡ Status.WriteFault → Rose (O.faults out.old) (O.faults out.new) }
+    ensures complete { (Rose (O.faults out.old) (O.faults out.new) → ⊥) → (result ≡ Status.Ok) ⊎ (result ≡ Status.Memory) }
     ensures faults { O.faults out.old ≤ O.faults out.new }
     ensures wants { O.wants out.old ≤ O.wants out.new }
 {
@@ -61,6 +62,11 @@ pub fn run_solo<O: Sink>(alloc: Global, words: &[String], out: &mut O) -> Status
         × ((O.written out.new ≡ O.written out.old) ⊎ WritesPart b (O.written out.old) (O.written out.new)) }
 
     ensures failed { result ≡ Status.WriteFault → Rose (O.faults out.old) (O.faults out.new) }
+
+    // A command is carried out where the sink did not fail, but for want of memory.
+    ensures complete { (b : Limits) → IsCommand (map string_bytes words.now) b
+        → (Rose (O.faults out.old) (O.faults out.new) → ⊥) → (result ≡ Status.Ok) ⊎ (result ≡ Status.Memory) }
+
     ensures faults { O.faults out.old ≤ O.faults out.new }
     ensures wants { O.wants out.old ≤ O.wants out.new }
 {

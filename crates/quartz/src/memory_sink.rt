@@ -1,15 +1,15 @@
 //! A sink in memory that fails at given places.
 ghost use Rattle.std.specs.Prelude.{◌≡◌, ◌<◌, ◌≤◌, ◌↔◌, ◌++◌, [], length, take, drop, slice_get, Some, IsNone, IfSome, IfOk, OnErr};
-ghost use Rattle.std.specs.List.Sorted.{IsStrictlyIncreasing};
 ghost use Rattle.quartz.specs.Sink.{counted, Rose, grown};
-ghost use Rattle.quartz.specs.MemSink.{Content, AreStopsFrom, IsAtStop, before_stop};
+ghost use Rattle.quartz.specs.MemSink.{Content, IsAtStop, before_stop};
 
 use crate::sink::{IoFault, Sink};
 use std::alloc::Global;
 use std::marker::Model;
 
 /// Keeps what is written. A write at the first stop that is left fails and strikes that stop; a write before it
-/// moves no byte past it.
+/// moves no byte past it. Stops are meant to rise. Equal stops fail one after the other; a first stop that lies
+/// behind what is written is never struck, so that neither it nor any after it holds anything back.
 #[derive(Debug, Drop)]
 pub struct MemSink {
     written: Vec<u8>,
@@ -19,20 +19,16 @@ pub struct MemSink {
 }
 
 impl Model for MemSink {
-    ghost use Rattle.std.specs.Prelude.{length};
-    ghost use Rattle.quartz.specs.MemSink.{Content, AreStopsFrom};
+    ghost use Rattle.quartz.specs.MemSink.{Content};
 
     ghost Value = { Content };
 
     ghost view = { λ s. record { written = s.written.items; stops = s.stops.items; faults = s.faults; wants = s.wants } };
-
-    ghost invariant = { λ s. AreStopsFrom (length s.written.items) s.stops.items };
 }
 
 impl MemSink {
     /// Nothing is written yet.
     pub fn new(alloc: Global, stops: Vec<u64>) -> MemSink
-        requires { IsStrictlyIncreasing stops.items }
         ensures { result ≡ record { written = []; stops = stops.items; faults = 0; wants = 0 } }
     {
         MemSink {
@@ -65,18 +61,17 @@ impl MemSink {
     }
 }
 
-// How many of the bytes come before the first stop; none where the stop is here.
+// How many of the bytes come before the first stop that is left; none where that stop is here.
 fn room(stops: &[u64], done: u64, most: usize) -> Option<usize>
-    requires { AreStopsFrom done stops.now }
     ensures stopped { IsNone result ↔ (slice_get stops.now 0 ≡ Some done) }
     ensures amount { IfSome result (λ k. k ≡ before_stop done stops.now most) }
     ensures within { IfSome result (λ k. k ≤ most) }
     ensures some { IfSome result (λ k. 0 < most → 0 < k) }
 {
     match stops {
-        [] => Some(most),
         [stop, ..] if *stop == done => None,
-        [stop, ..] => Some(most.min((*stop - done) as usize)),
+        [stop, ..] if *stop > done => Some(most.min((*stop - done) as usize)),
+        _ => Some(most),
     }
 }
 

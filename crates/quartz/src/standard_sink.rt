@@ -1,13 +1,15 @@
 //! Standard output and standard error as sinks.
-ghost use Rattle.std.specs.Prelude.{◌≡◌, ◌≢◌, ℕ, ◌<◌, ◌≤◌, length, take, None, IfOk, OnErr};
-ghost use Rattle.quartz.specs.Sink.{Rose, grown};
+ghost use Rattle.std.specs.Prelude.{◌≡◌, ◌≢◌, ◌<◌, ◌≤◌, length, take, None, IfOk, OnErr};
+ghost use Rattle.std.specs.Io.KnownBytes.{Appends, Keeps};
+ghost use Rattle.quartz.specs.Sink.{counted, Rose, grown};
+ghost use Rattle.quartz.specs.StdSink.{Stream};
 
 use crate::sink::{IoFault, Sink};
 use std::io::Write;
 use std::marker::Model;
 
-/// A stream of the system, which tells nothing of its content. It counts each error, and each write that takes
-/// nothing of a piece that isn't empty.
+/// Writes to a stream of the system. As a sink it tells nothing of its content. It counts each error, and each
+/// write that takes nothing of a piece that isn't empty.
 #[derive(Drop)]
 pub struct StdSink<W: Write + Drop> {
     stream: W,
@@ -15,24 +17,24 @@ pub struct StdSink<W: Write + Drop> {
 }
 
 impl<W: Write + Drop> Model for StdSink<W> {
-    ghost use Rattle.std.specs.Prelude.{ℕ};
+    ghost use Rattle.quartz.specs.StdSink.{Stream};
 
-    ghost Value = { ℕ };
+    ghost Value = { Stream };
 
-    ghost view = { λ s. s.faults };
+    ghost view = { λ s. record { taken = W.contents s.stream; faults = s.faults } };
 }
 
 impl<W: Write + Drop> StdSink<W> {
     /// A sink that has not failed yet.
     pub fn new(stream: W) -> Self
-        ensures { result ≡ 0 }
+        ensures { result ≡ record { taken = W.contents stream; faults = 0 } }
     {
         StdSink { stream, faults: 0 }
     }
 
     /// How often it has failed.
     pub fn faults(&self) -> u64
-        ensures { result ≡ self.now }
+        ensures { result ≡ self.now.faults }
     {
         self.faults
     }
@@ -41,11 +43,24 @@ impl<W: Write + Drop> StdSink<W> {
 impl<W: Write + Drop> Sink for StdSink<W> {
     ghost written = { λ _. None };
 
-    ghost faults = { λ s. s };
+    ghost faults = { λ s. s.faults };
 
     ghost wants = { λ _. 0 };
 
-    fn write(&mut self, piece: &[u8]) -> Result<usize, IoFault> {
+    fn write(&mut self, piece: &[u8]) -> Result<usize, IoFault>
+        ensures within { IfOk result (λ k. k ≤ length piece.now) }
+        ensures some { IfOk result (λ k. 0 < length piece.now → 0 < k) }
+        ensures taken { IfOk result (λ k. None ≡ grown None (take k piece.now)) }
+        ensures failed { result ≡ Err IoFault.Failed → Rose self.old.faults self.new.faults }
+        ensures faults { self.old.faults ≤ self.new.faults }
+
+        // The stream took exactly those bytes; or it failed, which is counted once, and took none.
+        ensures took { IfOk result (λ k. Appends self.old.taken self.new.taken (take k piece.now)) }
+        ensures took_none { OnErr result (Keeps self.old.taken self.new.taken) }
+        ensures uncounted { IfOk result (λ _. self.new.faults ≡ self.old.faults) }
+        ensures counted_once { result ≡ Err IoFault.Failed → self.new.faults ≡ counted self.old.faults }
+        ensures never_memory { result ≢ Err IoFault.Memory }
+    {
         match self.stream.write(piece) {
             Ok(count) if count > 0 || piece.is_empty() => Ok(count),
             _ => {

@@ -3,4 +3,5 @@
 mod circuits;
 mod commands;
 mod equivalence;
+mod sinks;
 mod sums;

@@ -2,13 +2,11 @@
 
 use crate::command::run_solo;
 use crate::memory_sink::MemSink;
-use crate::sink::{IoFault, Sink, deliver};
-use crate::standard_sink::StdSink;
 use crate::status::Status;
 use qz_circ::Which;
 use std::alloc::{AllocError, Global};
+use std::str;
 use std::test::Fail;
-use std::{io, str};
 
 // The rules of the identities of at most two gates on one qubit.
 fn two_gates() -> &'static str {
@@ -112,20 +110,6 @@ rz(1) 0;x 0\n\
 end\n"
 }
 
-// A stream that takes nothing.
-#[derive(Drop)]
-struct Full;
-
-impl io::Write for Full {
-    fn write(&mut self, _bytes: &[u8]) -> io::Result<usize> {
-        Ok(0)
-    }
-
-    fn flush(&mut self) -> io::Result<()> {
-        Ok(())
-    }
-}
-
 // The status for the words of this text, which are parted by single spaces.
 fn answer(alloc: Global, text: &str, out: &mut MemSink) -> Result<Status, AllocError> {
     let mut words = Vec::new(alloc);
@@ -226,30 +210,5 @@ fn refuses_words(rt: HostRuntime) -> Result<(), Fail> {
         assert_eq!(rt; status.number(), 11);
     }
     assert_eq!(rt; out.written().len(), 0);
-    Ok(())
-}
-
-#[test]
-fn stops_before_a_byte(rt: HostRuntime) -> Result<(), Fail> {
-    let alloc = rt.alloc();
-    let mut out = MemSink::new(alloc, vec![in alloc; 2, 3]?);
-    assert_eq!(rt; out.write(b"abcd"), Ok(2));
-    assert_eq!(rt; out.write(b""), Err(IoFault::Failed));
-    assert_eq!(rt; deliver(b"cd", &mut out), Err(IoFault::Failed));
-    assert_eq!(rt; deliver(b"de", &mut out), Ok(()));
-    assert_eq!(rt; out.written(), b"abcde".as_slice());
-    assert_eq!(rt; out.faults(), 2);
-    Ok(())
-}
-
-#[test]
-fn counts_faults_of_a_stream(rt: HostRuntime) -> Result<(), Fail> {
-    let mut out = StdSink::new(Full);
-    assert_eq!(rt; out.write(b""), Ok(0));
-    assert_eq!(rt; out.write(b"a"), Err(IoFault::Failed));
-    assert_eq!(rt; out.faults(), 1);
-    let mut out = StdSink::new(rt.stderr());
-    assert_eq!(rt; deliver(b"on standard error\n", &mut out), Ok(()));
-    assert_eq!(rt; out.faults(), 0);
     Ok(())
 }
