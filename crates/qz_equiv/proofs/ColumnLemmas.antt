@@ -43,10 +43,14 @@ more_paths q h c k d j i less =
     ap (λ (w : Ways). root2 h (w i j)) (fold_more (λ (w : Ways) g. ways_through q w (entry g)) identity_ways c k d less) ∙
     root2-ways_through h q (paths q (take k c)) (get_or c k d) i j
 
+-- the next column has the ways through one more gate
+next_ways : (size n : ℕ) (g : Op) (ways : ℕ → List Path) (old new : List Terms) → IsColumn size n ways old → IsNextColumn size g old new → IsColumn size (n + 1) (ways_after size g ways) new
+next_ways size n g ways old new is_column next = record { rows = next.rows; entries = λ i less. next.entries i less n ways is_column }
+
 -- a column of the circuit with one gate more
 pub column_step : (q h : ℕ) (c : Circuit) (k : ℕ) (d : Op) (j : ℕ) (old new : List Terms) → k < length c → IsColumn (2 ^ q) (k + h) (λ i. root2 h (paths q (take k c) i j)) old → IsNextColumn (2 ^ q) (get_or c k d) old new → IsColumn (2 ^ q) (k + 1 + h) (λ i. root2 h (paths q (take (k + 1) c) i j)) new
 column_step q h c k d j old new less before next =
-    let after = next (k + h) (λ i. root2 h (paths q (take k c) i j)) before in
+    let after = next_ways (2 ^ q) (k + h) (get_or c k d) (λ i. root2 h (paths q (take k c) i j)) old new before next in
     let bound : k + h + 1 ≡ k + 1 + h = omega arith in
     let ways : (λ i. root2 h (paths q (take (k + 1) c) i j)) ≡ ways_after (2 ^ q) (get_or c k d) (λ i. root2 h (paths q (take k c) i j)) = (λ t i. more_paths q h c k d j i less t) in
     subst (λ (w : ℕ → List Path). IsColumn (2 ^ q) (k + 1 + h) w new) (sym ways) (subst (λ n. IsColumn (2 ^ q) n (ways_after (2 ^ q) (get_or c k d) (λ i. root2 h (paths q (take k c) i j))) new) bound after)

@@ -1,5 +1,5 @@
 -- The monomials that can take one matrix to another are found among the exponents of one entry.
-use Rattle.std.proofs.Common.{◌≡◌, ◌≢◌, ℕ, zero, suc, ◌<◌, ◌≤◌, Bool, true, false, not, List, [], ◌∷◌, length, Option, Some, None, ℤ, pos, ◌-ℤ◌, neg_ℤ, to_z, of_z, sym, ap, subst, ◌∙◌, refl, arith, ◌⊎◌, inl, inr, ⊎_elim}
+use Rattle.std.proofs.Common.{◌≡◌, ◌≢◌, ℕ, zero, suc, ◌<◌, ◌≤◌, Bool, true, false, not, List, [], ◌∷◌, length, Option, Some, None, ℤ, pos, ◌-ℤ◌, neg_ℤ, FitsSigned, to_z, of_z, sym, ap, subst, ◌∙◌, refl, arith, ◌⊎◌, inl, inr, ⊎_elim}
 use Rattle.std.specs.Prelude.{unsigned_abs, slice_get, IsTrue, ◌↔◌, is_some, MatchOption}
 use Rattle.std.specs.Int.{w64}
 use Rattle.std.proofs.lemmas.Int.{ints, to_z-of_z, fits_signed_from_abs}
@@ -10,11 +10,28 @@ use Rattle.qz_ring.proofs.Order.{same_from_parts, same_exponent-decides}
 use Rattle.qz_equiv.specs.Entries.{row, column}
 use Rattle.qz_equiv.specs.Phases.{IsMatrixShift, HasPhase, IsZeroMatrix, IsPivot, SameShape}
 
+-- a small power fits its type, and so does the difference of two
+power_fits : (p : ℤ) → unsigned_abs p ≤ 200 → FitsSigned w64 p
+power_fits p small = fits_signed_from_abs w64 p (omega arith)
+
+-- the difference of two small powers is small
+small_difference : (p q : ℤ) → unsigned_abs p ≤ 100 → unsigned_abs q ≤ 100 → unsigned_abs (p -ℤ q) ≤ 200
+small_difference p q small_p small_q = omega (arith, unsigned_abs-add p (neg_ℤ q), unsigned_abs-neg q)
+
+-- two powers, as the code reads them, have the difference of the powers
+power_read : (x y p q : ℤ) → x ≡ p → y ≡ q → unsigned_abs p ≤ 100 → unsigned_abs q ≤ 100 → to_z w64 (of_z w64 x) -ℤ to_z w64 (of_z w64 y) ≡ p -ℤ q
+power_read x y p q first second small_p small_q =
+    rw (first, second, to_z-of_z w64 p (power_fits p (omega arith)), to_z-of_z w64 q (power_fits q (omega arith))) refl
+
+-- it fits its type
+pub difference_fits : (x y p q : ℤ) → x ≡ p → y ≡ q → unsigned_abs p ≤ 100 → unsigned_abs q ≤ 100 → FitsSigned w64 (to_z w64 (of_z w64 x) -ℤ to_z w64 (of_z w64 y))
+difference_fits x y p q first second small_p small_q =
+    subst (FitsSigned w64) (sym (power_read x y p q first second small_p small_q)) (power_fits (p -ℤ q) (small_difference p q small_p small_q))
+
 -- the difference of two powers, as the code makes it, is their difference
 pub power_difference : (x y p q : ℤ) → x ≡ p → y ≡ q → unsigned_abs p ≤ 100 → unsigned_abs q ≤ 100 → to_z w64 (of_z w64 (to_z w64 (of_z w64 x) -ℤ to_z w64 (of_z w64 y))) ≡ p -ℤ q
 power_difference x y p q first second small_p small_q =
-    let bound : unsigned_abs (p -ℤ q) ≤ 200 = omega (arith, unsigned_abs-add p (neg_ℤ q), unsigned_abs-neg q) in
-    rw (first, second, to_z-of_z w64 p (fits_signed_from_abs w64 p (omega arith)), to_z-of_z w64 q (fits_signed_from_abs w64 q (omega arith)), to_z-of_z w64 (p -ℤ q) (fits_signed_from_abs w64 (p -ℤ q) (omega arith))) refl
+    ap (λ z. to_z w64 (of_z w64 z)) (power_read x y p q first second small_p small_q) ∙ to_z-of_z w64 (p -ℤ q) (power_fits (p -ℤ q) (small_difference p q small_p small_q))
 
 -- each power is at most as large as the largest
 pub powers_within : (e : Monomial) (n : ℕ) → reach_of e ≤ n → (unsigned_abs e.x0 ≤ n) × (unsigned_abs e.x1 ≤ n) × (unsigned_abs e.x2 ≤ n)

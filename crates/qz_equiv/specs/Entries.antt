@@ -70,9 +70,10 @@ ways_after size g ways i = flat_map (λ k. products (ways k) (entry g i k)) (bel
 abbrev pub IsNextEntry : ℕ → Op → ℕ → List Terms → Terms → Type 0
 IsNextEntry size g i old sum = (n : ℕ) (ways : ℕ → List Path) → IsColumn size n ways old → IsEntry (n + 1) (ways_after size g ways i) sum
 
--- for every ways of which old is the column, new is the column of the ways through one more gate
-abbrev pub IsNextColumn : ℕ → Op → List Terms → List Terms → Type 0
-IsNextColumn size g old new = (n : ℕ) (ways : ℕ → List Path) → IsColumn size n ways old → IsColumn size (n + 1) (ways_after size g ways) new
+-- each entry of the new column is the next one of the old column
+pub record IsNextColumn (size : ℕ) (g : Op) (old new : List Terms) : Type 0 where
+  pub rows : length new ≡ size
+  pub entries : (i : ℕ) → i < size → IsNextEntry size g i old (row new i)
 
 -- the column of a matrix
 abbrev pub column : List (List Terms) → ℕ → List Terms

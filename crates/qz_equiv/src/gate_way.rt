@@ -32,7 +32,7 @@ fn flipped_state(t: u8, state: u64) -> u64
     state ^ (1 << t)
 }
 
-// 1 at the parameter with this number, and 0 at the others.
+// The power of parameter k in parameter i: 1 where they are the same, and else 0.
 fn power_at(i: u8, k: u8) -> i64
     ensures value { result ≡ unit_at i k }
     ensures least { pos 0 ≤ℤ result }
@@ -41,7 +41,7 @@ fn power_at(i: u8, k: u8) -> i64
     if i == k { 1 } else { 0 }
 }
 
-// What the sum of two parameters has at the parameter with this number.
+// The power of parameter k in the sum of parameters i and j.
 fn sum_at(i: u8, j: u8, k: u8) -> i64
     ensures { result ≡ unit_at i k +ℤ unit_at j k }
 {
@@ -73,7 +73,7 @@ fn exponent_of_angle(angle: Expr) -> Exponent
 }
 
 // The exponent of 1.
-fn no_exponent() -> Exponent
+fn exponent_of_one() -> Exponent
     ensures { exponent_of result ≡ zero_exponent }
 {
     Exponent {
@@ -101,7 +101,7 @@ fn way_through_h(t: u8, i: u64, k: u64) -> Option<Way>
     way_if(
         i == k || i == flipped_state(t, k),
         has_bit(t, i) && has_bit(t, k),
-        no_exponent(),
+        exponent_of_one(),
     )
 }
 
@@ -110,7 +110,7 @@ fn way_through_x(t: u8, i: u64, k: u64) -> Option<Way>
     requires { t < 3 }
     ensures { entry (X t) i k ≡ ways_of result }
 {
-    way_if(i == flipped_state(t, k), false, no_exponent())
+    way_if(i == flipped_state(t, k), false, exponent_of_one())
 }
 
 #[tactic(auto, unfolding(qz_circ::specs::Paths::entry))]
@@ -124,7 +124,7 @@ fn way_through_cx(c: u8, t: u8, i: u64, k: u64) -> Option<Way>
     } else {
         k
     };
-    way_if(i == to, false, no_exponent())
+    way_if(i == to, false, exponent_of_one())
 }
 
 #[tactic(auto, unfolding(qz_circ::specs::Paths::entry))]
@@ -135,7 +135,7 @@ fn way_through_rz(t: u8, angle: Expr, i: u64, k: u64) -> Option<Way>
     let exponent = if has_bit(t, i) {
         exponent_of_angle(angle)
     } else {
-        no_exponent()
+        exponent_of_one()
     };
     way_if(i == k, false, exponent)
 }

@@ -35,8 +35,8 @@ fn count_h(c: &[Op]) -> u64
 // Whether the circuits are equivalent, or the want of memory.
 fn same_circuits(alloc: Global, a: &[Op], c: &[Op], q: u64) -> Result<bool, qz_ring::Memory>
     requires qubits { q ≤ 3 }
-    requires first { IsOn q 0 a.now }
-    requires second { IsOn q 0 c.now }
+    requires first { IsOn q 3 a.now }
+    requires second { IsOn q 3 c.now }
     requires short { length a.now + length c.now ≤ 100 }
     ensures exact { IfOk result (λ same. IsTrue same ↔ Equivalent q a.now c.now) }
 {

@@ -12,7 +12,7 @@ loop-i-preserved c = record {
 }
 
 pub returns : goal.returns
-returns c n ways is_column = record {
+returns c = record {
   rows = omega (arith, c.loop-i.invariant.filled, c.requires.rows);
-  entries = λ i less. c.loop-i.invariant.entries i (omega (arith, less, c.requires.rows)) n ways is_column;
+  entries = λ i less. c.loop-i.invariant.entries i (omega (arith, less, c.requires.rows));
 }

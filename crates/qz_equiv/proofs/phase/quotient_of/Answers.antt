@@ -1,8 +1,18 @@
 use Rattle.std.proofs.Common.{◌+◌, ◌-◌, ◌%◌, ◌≤◌, ap, subst, sym}
 use Rattle.qz_ring.specs.Exponent.{Exponent, minus, reach_of}
 use Rattle.qz_ring.proofs.Order.{same_from_parts}
-use Rattle.qz_equiv.proofs.PhaseLemmas.{power_difference, powers_within, reach_of-minus}
+use Rattle.qz_equiv.proofs.PhaseLemmas.{difference_fits, power_difference, powers_within, reach_of-minus}
 use Rattle.qz_equiv.proofs.phase.quotient_of.Goals as goal
+
+-- the powers of both are small, so their differences fit
+pub overflow_sub-result-2 : goal.overflow_sub-result-2
+overflow_sub-result-2 c = difference_fits _ _ c.args.a.x0 c.args.b.x0 (ap (λ (e : Exponent). e.x0) c.a.view_is) (ap (λ (e : Exponent). e.x0) c.b.view_is) (powers_within c.args.a 100 c.requires.first).0 (powers_within c.args.b 100 c.requires.second).0
+
+pub overflow_sub-result-3 : goal.overflow_sub-result-3
+overflow_sub-result-3 c = difference_fits _ _ c.args.a.x1 c.args.b.x1 (ap (λ (e : Exponent). e.x1) c.a.view_is) (ap (λ (e : Exponent). e.x1) c.b.view_is) (powers_within c.args.a 100 c.requires.first).1 (powers_within c.args.b 100 c.requires.second).1
+
+pub overflow_sub-result-4 : goal.overflow_sub-result-4
+overflow_sub-result-4 c = difference_fits _ _ c.args.a.x2 c.args.b.x2 (ap (λ (e : Exponent). e.x2) c.a.view_is) (ap (λ (e : Exponent). e.x2) c.b.view_is) (powers_within c.args.a 100 c.requires.first).2 (powers_within c.args.b 100 c.requires.second).2
 
 -- each part is the difference of the parts
 pub returns-clause-value : goal.returns-clause-value
