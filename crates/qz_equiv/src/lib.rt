@@ -1,4 +1,4 @@
-//! Exact equivalence of circuits without parameters.
+//! Exact equivalence of circuits, with up to three parameters.
 //!
 //! Two circuits are equivalent when their matrices are equal up to a monomial of absolute value 1. The matrices are
 //! brought to the same power of √2, which leaves sums of monomials with whole coefficients as entries. A monomial
@@ -46,7 +46,8 @@ fn same_circuits(alloc: Global, a: &[Op], c: &[Op], q: u64) -> Result<bool, qz_r
     Ok(same)
 }
 
-/// Whether two circuits without parameters are equivalent on q qubits. Counts one step, also where memory runs out.
+/// Whether two circuits are equivalent on q qubits, from 1 to 3, up to a phase that may hold parameters. They have at
+/// most 100 gates together, on these qubits, and the parameters 0, 1 and 2. Counts one step, also where memory runs out.
 pub fn decide<L: Ledger>(
     alloc: Global,
     a: &[Op],
@@ -55,8 +56,8 @@ pub fn decide<L: Ledger>(
     steps: &mut Steps<L>,
 ) -> Result<bool, Memory>
     requires qubits { (1 ≤ q) × (q ≤ 3) }
-    requires first { IsOn q 0 a.now }
-    requires second { IsOn q 0 c.now }
+    requires first { IsOn q 3 a.now }
+    requires second { IsOn q 3 c.now }
     requires short { length a.now + length c.now ≤ 100 }
     ensures exact { IfOk result (λ same. IsTrue same ↔ Equivalent q a.now c.now) }
     ensures ticks { steps.new ≡ steps.old + 1 }

@@ -20,11 +20,8 @@ use std::sync::ledger::{Blank, Ledger};
 
 /// The class list: for each representative in order, the ranks of the kept circuits that are equivalent to it, in
 /// order; lists of one circuit are left out. It compares every two circuits within the bounds, so it is meant for
-/// bounds with few of them: at most two gates on at most two qubits, without parameters.
+/// bounds with few of them, as two gates on two qubits.
 pub fn generate_one(alloc: Global, b: Bounds) -> Result<Classes, Memory>
-    requires gates { b.n ≤ 2 }
-    requires qubits { b.q ≤ 2 }
-    requires params { b.m ≡ 0 }
     ensures bounds { IfOk result (λ k. k.bounds ≡ b) }
     ensures classes { IfOk result (λ k. IsClassList b k.lists) }
 {
@@ -36,7 +33,6 @@ fn generate<L: Ledger>(alloc: Global, b: Bounds, blank: Blank) -> Result<Classes
     requires name { blank.name ≡ L.name }
     requires parts { blank.parts ≡ L.parts }
     requires shared { 0 < L.parts }
-    requires params { b.m ≡ 0 }
     ensures bounds { IfOk result (λ k. k.bounds ≡ b) }
     ensures classes { IfOk result (λ k. IsClassList b k.lists) }
 {
@@ -62,7 +58,6 @@ fn advance<L: Ledger>(
     classes: &mut Vec<Class>,
     steps: &mut Steps<L>,
 ) -> Result<(), Memory>
-    requires params { b.m ≡ 0 }
     requires lawful { IsLawful b }
     requires rank { length circuits.now < length (all_circuits b) }
     requires before { circuits_in circuits.now ≡ take (length circuits.now) (all_circuits b) }
@@ -95,7 +90,6 @@ fn compare<L: Ledger>(
     circuit: &[Op],
     steps: &mut Steps<L>,
 ) -> Result<Vec<bool>, Memory>
-    requires params { b.m ≡ 0 }
     requires lawful { IsLawful b }
     requires few { length circuits.now ≤ length (all_circuits b) }
     requires before { circuits_in circuits.now ≡ take (length circuits.now) (all_circuits b) }
@@ -120,7 +114,6 @@ fn are_equivalent<L: Ledger>(
     c: &[Op],
     steps: &mut Steps<L>,
 ) -> Result<bool, Memory>
-    requires params { b.m ≡ 0 }
     requires first { Within b a.now }
     requires second { Within b c.now }
     ensures { IfOk result (λ same. IsTrue same ↔ Equivalent b.q a.now c.now) }
