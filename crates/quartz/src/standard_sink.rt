@@ -1,7 +1,7 @@
 //! Standard output and standard error as sinks.
 ghost use Rattle.std.specs.Prelude.{◌≡◌, ◌≢◌, ◌<◌, ◌≤◌, length, take, None, IfOk, OnErr};
 ghost use Rattle.std.specs.Io.KnownBytes.{Appends, Keeps};
-ghost use Rattle.quartz.specs.Sink.{counted, Rose, grown};
+ghost use Rattle.quartz.specs.Sink.{counted, Rose};
 ghost use Rattle.quartz.specs.StdSink.{Stream};
 
 use crate::sink::{IoFault, Sink};
@@ -50,7 +50,6 @@ impl<W: Write + Drop> Sink for StdSink<W> {
     fn write(&mut self, piece: &[u8]) -> Result<usize, IoFault>
         ensures within { IfOk result (λ k. k ≤ length piece.now) }
         ensures some { IfOk result (λ k. 0 < length piece.now → 0 < k) }
-        ensures taken { IfOk result (λ k. None ≡ grown None (take k piece.now)) }
         ensures failed { result ≡ Err IoFault.Failed → Rose self.old.faults self.new.faults }
         ensures faults { self.old.faults ≤ self.new.faults }
 
