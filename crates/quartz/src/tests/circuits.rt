@@ -12,6 +12,11 @@ fn bounds(n: u64, q: u64, m: u64) -> Result<Bounds, LimitFault> {
     Bounds::new(n, q, m)
 }
 
+// The limit that refuses these bounds, if one does.
+fn refusal(n: u64, q: u64, m: u64) -> Option<LimitFault> {
+    Bounds::new(n, q, m).err()
+}
+
 fn sizes(b: Bounds) -> [u64; 5] {
     [b.n(), b.q(), b.m(), b.gates(), b.circuits()]
 }
@@ -77,12 +82,12 @@ fn numbers_the_gates_on_one_qubit(rt: HostRuntime) -> Result<(), Fail> {
 
 #[test]
 fn bounds_are_refused_in_order(rt: HostRuntime) {
-    assert_eq!(rt; bounds(4, 3, 2).err(), None);
-    assert_eq!(rt; bounds(6, 1, 2).err(), None);
-    assert_eq!(rt; bounds(5, 2, 2).err(), Some(LimitFault::Circuits));
-    assert_eq!(rt; bounds(7, 1, 0).err(), Some(LimitFault::Gates));
-    assert_eq!(rt; bounds(1, 1, 4).err(), Some(LimitFault::Params));
-    assert_eq!(rt; bounds(9, 4, 9).err(), Some(LimitFault::Qubits));
+    assert_eq!(rt; refusal(4, 3, 2), None);
+    assert_eq!(rt; refusal(6, 1, 2), None);
+    assert_eq!(rt; refusal(5, 2, 2), Some(LimitFault::Circuits));
+    assert_eq!(rt; refusal(7, 1, 0), Some(LimitFault::Gates));
+    assert_eq!(rt; refusal(1, 1, 4), Some(LimitFault::Params));
+    assert_eq!(rt; refusal(9, 4, 9), Some(LimitFault::Qubits));
 }
 
 fn no_classes(alloc: Global, b: Bounds) -> Classes {
