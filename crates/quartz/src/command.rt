@@ -23,7 +23,6 @@ fn is_unbuilt(b: Bounds) -> bool
 
 // Writes the rule text of the class list of the bounds.
 fn write_rules<O: Sink>(alloc: Global, b: Bounds, out: &mut O) -> Status
-    requires { is_unbuilt b ≡ false }
     ensures carried_out { IsRefusal result → ⊥ }
     ensures ok { result ≡ Status.Ok → WritesRules b (O.written out.old) (O.written out.new) }
     ensures write_fault { result ≡ Status.WriteFault → WritesPart b (O.written out.old) (O.written out.new) }

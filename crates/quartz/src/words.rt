@@ -2,7 +2,7 @@
 ghost use Rattle.std.specs.Prelude.{◌≡◌, ◌<◌, ◌^◌, ◌↔◌, map, length, string_bytes};
 ghost use Rattle.std.specs.Option.{option_map};
 ghost use Rattle.qz_circ.specs.Circuit.{Limits};
-ghost use Rattle.quartz.specs.Words.{number_of, which_of, asked, IsUsage, IsRefused, Asks};
+ghost use Rattle.quartz.specs.Words.{number_of, limits_of, which_of, asked, IsUsage, IsRefused, Asks};
 
 use qz_circ::{Bounds, LimitFault, Which};
 
@@ -49,6 +49,13 @@ fn limit_of(fault: LimitFault) -> Which
     }
 }
 
+// The numbers of these three words.
+fn three_numbers(n: &str, q: &str, m: &str) -> Option<(u64, u64, u64)>
+    ensures { limits_of (number_of n.now) (number_of q.now) (number_of m.now) ≡ option_map (λ t. record { n = t.0; q = t.1; m = t.2 }) result }
+{
+    Some((number(n)?, number(q)?, number(m)?))
+}
+
 // The three numbers of the one written form.
 #[tactic(auto, unfolding(crate::specs::Words::asked))]
 fn asked_numbers(words: &[String]) -> Option<(u64, u64, u64)>
@@ -60,7 +67,7 @@ fn asked_numbers(words: &[String]) -> Option<(u64, u64, u64)>
     if command.as_str() != "generate" {
         return None;
     }
-    Some((number(n)?, number(q)?, number(m)?))
+    three_numbers(n, q, m)
 }
 
 /// The bounds of the generation that the words ask for.

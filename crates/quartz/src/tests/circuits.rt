@@ -1,55 +1,123 @@
 //! Bounds, ranks and lists of classes.
 
-use qz_circ::{Bounds, Classes, Expr, LimitFault, Op, length_of, op_number, op_of, rank, unrank};
+use qz_circ::{
+    Bounds, Classes, Expr, LimitFault, Memory, Op, length_of, op_number, op_of, rank, unrank,
+};
+use std::alloc::Global;
+use std::process::Abort;
 use std::test::Fail;
 
+// The first functions hide the clauses of what is tested: a test that knows less is proved sooner.
+fn bounds(n: u64, q: u64, m: u64) -> Result<Bounds, LimitFault> {
+    Bounds::new(n, q, m)
+}
+
+// The limit that refuses these bounds, if one does.
+fn refusal(n: u64, q: u64, m: u64) -> Option<LimitFault> {
+    Bounds::new(n, q, m).err()
+}
+
+fn sizes(b: Bounds) -> [u64; 5] {
+    [b.n(), b.q(), b.m(), b.gates(), b.circuits()]
+}
+
+fn rank_of(circuit: &[Op], b: Bounds) -> Option<u64> {
+    rank(circuit, b)
+}
+
+fn length_at(r: u64, b: Bounds) -> Option<u64> {
+    if r < b.circuits() {
+        Some(length_of(r, b))
+    } else {
+        None
+    }
+}
+
+fn circuit_at(alloc: Global, r: u64, b: Bounds) -> Option<Vec<Op>> {
+    if r < b.circuits() {
+        unrank(alloc, r, b).ok()
+    } else {
+        None
+    }
+}
+
+fn is_circuit_at(alloc: Global, r: u64, b: Bounds, wanted: &[Op]) -> bool {
+    match circuit_at(alloc, r, b) {
+        Some(circuit) => circuit.as_slice() == wanted,
+        None => false,
+    }
+}
+
+fn gate_at(number: u64, b: Bounds) -> Option<Op> {
+    op_of(number, b)
+}
+
+fn number_of(gate: Op, b: Bounds) -> Option<u64> {
+    op_number(gate, b)
+}
+
 #[test]
-fn two_gates_on_one_qubit(rt: HostRuntime) -> Result<(), Fail> {
-    let b = Bounds::new(2, 1, 0)?;
-    assert_eq!(rt; (b.n(), b.q(), b.m()), (2, 1, 0));
-    assert_eq!(rt; b.gates(), 9);
-    assert_eq!(rt; b.circuits(), 91);
+fn ranks_two_gates_on_one_qubit(rt: HostRuntime) -> Result<(), Fail> {
+    let b = bounds(2, 1, 0)?;
+    assert_eq!(rt; sizes(b), [2, 1, 0, 9, 91]);
     let first = Op::Rz(0, Expr::Const(1));
     let last = Op::Rz(0, Expr::Const(7));
-    assert_eq!(rt; rank(&[Op::X(0), first], b), Some(21));
-    assert_eq!(rt; rank(&[first, first, first], b), None);
-    assert_eq!(rt; length_of(21, b), 2);
-    let greatest = unrank(rt.alloc(), 90, b)?;
-    assert_eq!(rt; greatest.as_slice(), [last, last].as_slice());
-    assert_eq!(rt; op_of(8, b), Some(last));
-    assert_eq!(rt; op_of(9, b), None);
-    assert_eq!(rt; op_number(last, b), Some(8));
-    assert_eq!(rt; op_number(Op::H(1), b), None);
+    assert_eq!(rt; rank_of(&[Op::X(0), first], b), Some(21));
+    assert_eq!(rt; rank_of(&[first, first, first], b), None);
+    assert_eq!(rt; length_at(21, b), Some(2));
+    assert!(rt; is_circuit_at(rt.alloc(), 90, b, &[last, last]));
+    Ok(())
+}
+
+#[test]
+fn numbers_the_gates_on_one_qubit(rt: HostRuntime) -> Result<(), Fail> {
+    let b = bounds(2, 1, 0)?;
+    let last = Op::Rz(0, Expr::Const(7));
+    assert_eq!(rt; gate_at(8, b), Some(last));
+    assert_eq!(rt; gate_at(9, b), None);
+    assert_eq!(rt; number_of(last, b), Some(8));
+    assert_eq!(rt; number_of(Op::H(1), b), None);
     Ok(())
 }
 
 #[test]
 fn bounds_are_refused_in_order(rt: HostRuntime) {
-    let cases = [
-        (4, 3, 2, None),
-        (6, 1, 2, None),
-        (5, 2, 2, Some(LimitFault::Circuits)),
-        (7, 1, 0, Some(LimitFault::Gates)),
-        (1, 1, 4, Some(LimitFault::Params)),
-        (9, 4, 9, Some(LimitFault::Qubits)),
-    ];
-    for (n, q, m, fault) in cases {
-        assert_eq!(rt; Bounds::new(n, q, m).err(), fault, "{n} {q} {m}");
-    }
+    assert_eq!(rt; refusal(4, 3, 2), None);
+    assert_eq!(rt; refusal(6, 1, 2), None);
+    assert_eq!(rt; refusal(5, 2, 2), Some(LimitFault::Circuits));
+    assert_eq!(rt; refusal(7, 1, 0), Some(LimitFault::Gates));
+    assert_eq!(rt; refusal(1, 1, 4), Some(LimitFault::Params));
+    assert_eq!(rt; refusal(9, 4, 9), Some(LimitFault::Qubits));
+}
+
+fn no_classes(alloc: Global, b: Bounds) -> Classes {
+    Classes::empty(alloc, b)
+}
+
+// Appends the list of this rank alone.
+fn push_one(rt: &impl Abort, classes: &mut Classes, rank: u64) -> Result<(), Memory> {
+    assert!(rt; rank < classes.bounds().circuits());
+    classes.push(&[rank])
+}
+
+fn push_none(classes: &mut Classes) -> Result<(), Memory> {
+    classes.push(&[])
+}
+
+fn is_class(classes: &Classes, i: u64, wanted: &[u64]) -> bool {
+    i < classes.len() && classes.class(i) == wanted
 }
 
 #[test]
 fn classes_keep_their_lists(rt: HostRuntime) -> Result<(), Fail> {
-    let b = Bounds::new(2, 1, 0)?;
-    assert_eq!(rt; b.circuits(), 91);
-    let mut classes = Classes::empty(rt.alloc(), b);
+    let b = bounds(2, 1, 0)?;
+    let mut classes = no_classes(rt.alloc(), b);
     assert_eq!(rt; classes.len(), 0);
-    let last = b.circuits() - 1;
-    classes.push(&[last])?;
-    classes.push(&[])?;
+    push_one(&rt, &mut classes, 90)?;
+    push_none(&mut classes)?;
     assert_eq!(rt; classes.len(), 2);
-    assert_eq!(rt; classes.class(0), [last].as_slice());
-    assert_eq!(rt; classes.class(1).len(), 0);
+    assert!(rt; is_class(&classes, 0, &[90]));
+    assert!(rt; is_class(&classes, 1, &[]));
     assert_eq!(rt; classes.bounds(), b);
     Ok(())
 }

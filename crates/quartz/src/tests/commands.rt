@@ -5,6 +5,7 @@ use crate::memory_sink::MemSink;
 use crate::status::Status;
 use qz_circ::Which;
 use std::alloc::{AllocError, Global};
+use std::process::Abort;
 use std::str;
 use std::test::Fail;
 
@@ -110,72 +111,136 @@ rz(1) 0;x 0\n\
 end\n"
 }
 
-// The status for the words of this text, which are parted by single spaces.
-fn answer(alloc: Global, text: &str, out: &mut MemSink) -> Result<Status, AllocError> {
+// The words of this text, which are parted by single spaces.
+fn words_of(alloc: Global, text: &str) -> Result<Vec<String>, AllocError> {
     let mut words = Vec::new(alloc);
     for word in text.split(' ') {
         words.push(String::from_str(alloc, word)?)?;
     }
-    Ok(run_solo(alloc, &words, out))
+    Ok(words)
+}
+
+// The next functions hide the clauses of what is tested: a test that knows less is proved sooner.
+fn answer(alloc: Global, words: &[String], out: &mut MemSink) -> Status {
+    run_solo(alloc, words, out)
+}
+
+fn sink(alloc: Global) -> MemSink {
+    MemSink::new(alloc, Vec::new(alloc))
+}
+
+// A sink that takes so many bytes before it fails.
+fn sink_until(alloc: Global, stop: u64) -> Result<MemSink, AllocError> {
+    Ok(MemSink::new(alloc, vec![in alloc; stop]?))
+}
+
+fn number_of(status: Status) -> u8 {
+    status.number()
+}
+
+fn written(out: &MemSink) -> &[u8] {
+    out.written()
+}
+
+fn faults(out: &MemSink) -> u64 {
+    out.faults()
+}
+
+fn wants(out: &MemSink) -> u64 {
+    out.wants()
+}
+
+// The words of this text give these rules, and the status of success.
+fn writes(rt: &impl Abort, alloc: Global, text: &str, rules: &str) -> Result<(), AllocError> {
+    let words = words_of(alloc, text)?;
+    let mut out = sink(alloc);
+    let status = answer(alloc, &words, &mut out);
+    assert_eq!(rt; status, Status::Ok, "at {text}");
+    assert_eq!(rt; written(&out), rules.as_bytes(), "at {text}");
+    assert_eq!(rt; wants(&out), 0);
+    Ok(())
 }
 
 #[test]
 fn writes_rules(rt: HostRuntime) -> Result<(), Fail> {
     let alloc = rt.alloc();
-    for (words, rules) in [
-        (
-            "generate 0 1 0",
-            "quartz-rules 1\nbounds 0 1 0\nclasses 0\nend\n",
-        ),
-        (
-            "generate 01 2 000",
-            "quartz-rules 1\nbounds 1 2 0\nclasses 0\nend\n",
-        ),
-        ("generate 2 1 0", two_gates()),
-    ] {
-        let mut out = MemSink::new(alloc, Vec::new(alloc));
-        let status = answer(alloc, words, &mut out)?;
-        assert_eq!(rt; status, Status::Ok, "at {words}");
-        assert_eq!(rt; status.number(), 0);
-        assert_eq!(rt; out.written(), rules.as_bytes(), "at {words}");
-        assert_eq!(rt; out.wants(), 0);
-    }
+    let none = "quartz-rules 1\nbounds 0 1 0\nclasses 0\nend\n";
+    writes(&rt, alloc, "generate 0 1 0", none)?;
+    let none = "quartz-rules 1\nbounds 1 2 0\nclasses 0\nend\n";
+    writes(&rt, alloc, "generate 01 2 000", none)?;
+    writes(&rt, alloc, "generate 2 1 0", two_gates())?;
+    assert_eq!(rt; number_of(Status::Ok), 0);
     Ok(())
+}
+
+// How many lines the text has.
+fn line_count(text: &[u8]) -> Option<usize> {
+    Some(str::from_utf8(text).ok()?.lines().count())
+}
+
+fn begins_with(text: &[u8], head: &str) -> bool {
+    text.starts_with(head.as_bytes())
+}
+
+fn ends_with(text: &[u8], end: &str) -> bool {
+    text.ends_with(end.as_bytes())
 }
 
 #[test]
 fn writes_130_classes_of_349_members_on_two_qubits(rt: HostRuntime) -> Result<(), Fail> {
     let alloc = rt.alloc();
-    let mut out = MemSink::new(alloc, Vec::new(alloc));
-    assert_eq!(rt; answer(alloc, "generate 2 2 0", &mut out)?, Status::Ok);
-    let head = b"quartz-rules 1\nbounds 2 2 0\nclasses 130\nclass 21\n-\nh 0;h 0\n";
-    assert!(rt; out.written().starts_with(head));
-    let text = str::from_utf8(out.written())?;
-    assert_eq!(rt; text.lines().count(), 3 + 130 + 349 + 1);
+    let words = words_of(alloc, "generate 2 2 0")?;
+    let mut out = sink(alloc);
+    assert_eq!(rt; answer(alloc, &words, &mut out), Status::Ok);
+    let head = "quartz-rules 1\nbounds 2 2 0\nclasses 130\nclass 21\n-\nh 0;h 0\n";
+    assert!(rt; begins_with(written(&out), head));
+    assert_eq!(rt; line_count(written(&out)), Some(3 + 130 + 349 + 1));
+    Ok(())
+}
+
+// At a sink that takes so many bytes, the beginning of the rules is written.
+fn ends_after(rt: &impl Abort, alloc: Global, stop: u64, end: &str) -> Result<(), AllocError> {
+    let words = words_of(alloc, "generate 2 1 0")?;
+    let mut out = sink_until(alloc, stop)?;
+    assert_eq!(rt; answer(alloc, &words, &mut out), Status::WriteFault);
+    let text = written(&out);
+    assert_eq!(rt; text.len() as u64, stop);
+    assert!(rt; two_gates().as_bytes().starts_with(text));
+    assert!(rt; ends_with(text, end));
+    assert_eq!(rt; faults(&out), 1);
     Ok(())
 }
 
 #[test]
 fn ends_at_a_write_fault(rt: HostRuntime) -> Result<(), Fail> {
-    let alloc = rt.alloc();
-    for stop in [0, 100] {
-        let mut out = MemSink::new(alloc, vec![in alloc; stop]?);
-        let status = answer(alloc, "generate 2 1 0", &mut out)?;
-        assert_eq!(rt; status, Status::WriteFault);
-        assert_eq!(rt; status.number(), 9);
-        assert_eq!(rt; out.written().len() as u64, stop);
-        assert!(rt; two_gates().as_bytes().starts_with(out.written()));
-        assert!(rt; stop == 0 || out.written().ends_with(b"rz"));
-        assert_eq!(rt; out.faults(), 1);
-    }
+    ends_after(&rt, rt.alloc(), 0, "")?;
+    ends_after(&rt, rt.alloc(), 100, "rz")?;
+    assert_eq!(rt; number_of(Status::WriteFault), 9);
+    Ok(())
+}
+
+// These words are refused with this status, and nothing is written.
+fn refuses(rt: &impl Abort, alloc: Global, words: &[String], status: Status) {
+    let mut out = sink(alloc);
+    assert_eq!(rt; answer(alloc, words, &mut out), status, "at {words:?}");
+    assert_eq!(rt; written(&out).len(), 0, "at {words:?}");
+}
+
+fn refuses_text(
+    rt: &impl Abort,
+    alloc: Global,
+    text: &str,
+    status: Status,
+) -> Result<(), AllocError> {
+    let words = words_of(alloc, text)?;
+    refuses(rt, alloc, &words, status);
     Ok(())
 }
 
 #[test]
 fn refuses_words(rt: HostRuntime) -> Result<(), Fail> {
     let alloc = rt.alloc();
-    let mut out = MemSink::new(alloc, Vec::new(alloc));
-    assert_eq!(rt; run_solo(alloc, &[], &mut out), Status::Usage);
+    refuses(&rt, alloc, &[], Status::Usage);
     for text in [
         "",
         "generate 2 1",
@@ -183,13 +248,20 @@ fn refuses_words(rt: HostRuntime) -> Result<(), Fail> {
         "generate 2 1 ",
         "generate 2 +1 0",
         "generate 2 1 0000000000000000000",
+        "generate 9 9 x",
         "generate 2 1 0 --seed 1",
         "tidy now",
         "optimise",
     ] {
-        assert_eq!(rt; answer(alloc, text, &mut out)?, Status::Usage);
+        refuses_text(&rt, alloc, text, Status::Usage)?;
     }
-    assert_eq!(rt; Status::Usage.number(), 2);
+    assert_eq!(rt; number_of(Status::Usage), 2);
+    Ok(())
+}
+
+#[test]
+fn refuses_numbers_past_a_limit(rt: HostRuntime) -> Result<(), Fail> {
+    let alloc = rt.alloc();
     for (text, which) in [
         ("generate 2 4 0", Which::BoundsQubits),
         ("generate 7 1 0", Which::BoundsGates),
@@ -200,15 +272,18 @@ fn refuses_words(rt: HostRuntime) -> Result<(), Fail> {
             Which::BoundsQubits,
         ),
     ] {
-        let status = answer(alloc, text, &mut out)?;
-        assert_eq!(rt; status, Status::Limit(which));
-        assert_eq!(rt; status.number(), 3);
+        refuses_text(&rt, alloc, text, Status::Limit(which))?;
+        assert_eq!(rt; number_of(Status::Limit(which)), 3);
     }
+    Ok(())
+}
+
+#[test]
+fn refuses_what_is_not_built(rt: HostRuntime) -> Result<(), Fail> {
+    let alloc = rt.alloc();
     for text in ["generate 0 3 0", "generate 3 1 0", "generate 2 1 1"] {
-        let status = answer(alloc, text, &mut out)?;
-        assert_eq!(rt; status, Status::Unbuilt);
-        assert_eq!(rt; status.number(), 11);
+        refuses_text(&rt, alloc, text, Status::Unbuilt)?;
     }
-    assert_eq!(rt; out.written().len(), 0);
+    assert_eq!(rt; number_of(Status::Unbuilt), 11);
     Ok(())
 }

@@ -14,8 +14,8 @@ fn counted<L: Ledger>(alloc: Global, a: &[Op], c: &[Op], blank: Blank) -> Result
     requires name { blank.name ≡ L.name }
     requires parts { blank.parts ≡ L.parts }
     requires shared { 0 < L.parts }
-    requires first { IsOn 1 0 a.now }
-    requires second { IsOn 1 0 c.now }
+    requires first { IsOn 1 3 a.now }
+    requires second { IsOn 1 3 c.now }
     requires short { length a.now + length c.now ≤ 100 }
 {
     let mut steps = Steps::<L>::new(blank);
@@ -24,8 +24,8 @@ fn counted<L: Ledger>(alloc: Global, a: &[Op], c: &[Op], blank: Blank) -> Result
 
 // The decision on one qubit.
 fn decision(alloc: Global, a: &[Op], c: &[Op]) -> Result<bool, Memory>
-    requires first { IsOn 1 0 a.now }
-    requires second { IsOn 1 0 c.now }
+    requires first { IsOn 1 3 a.now }
+    requires second { IsOn 1 3 c.now }
     requires short { length a.now + length c.now ≤ 100 }
 {
     counted::<Brand>(alloc, a, c, Blank::new(1))
@@ -50,6 +50,12 @@ fn equivalent_circuits_of_one_qubit(rt: HostRuntime) -> Result<(), Fail> {
         decision(alloc, &[X, half_turn, X], &[half_turn])?,
         "a phase of -1"
     );
+    let forwards = Op::Rz(0, Expr::Plus(0));
+    let backwards = Op::Rz(0, Expr::Minus(0));
+    assert!(rt;
+        decision(alloc, &[X, forwards], &[backwards, X])?,
+        "a phase that is a parameter"
+    );
     Ok(())
 }
 
@@ -65,5 +71,8 @@ fn different_circuits_of_one_qubit(rt: HostRuntime) -> Result<(), Fail> {
     );
     assert!(rt; !decision(alloc, &[H], &[])?, "H and none");
     assert!(rt; !decision(alloc, &[X], &[eighth])?, "X and an eighth");
+    let first = Op::Rz(0, Expr::Plus(0));
+    let second = Op::Rz(0, Expr::Plus(1));
+    assert!(rt; !decision(alloc, &[first], &[second])?, "two parameters");
     Ok(())
 }

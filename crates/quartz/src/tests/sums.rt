@@ -1,75 +1,150 @@
 //! Small sums of monomials.
+ghost use Rattle.std.specs.Prelude.{◌<◌};
 
-use qz_ring::{Elem, Exponent};
+use qz_ring::{Elem, Exponent, Memory};
+use std::alloc::Global;
+use std::process::Abort;
 use std::test::Fail;
 
-// The square root of 2, twice, doubles; and the sum of the turns by 0 and 256 is zero.
-#[test]
-fn root2_twice_doubles_and_half_a_turn_cancels(rt: HostRuntime) -> Result<(), Fail> {
-    let mut twice = Elem::one(rt.alloc())?;
-    twice.times_root2()?;
-    assert_eq!(rt; twice.terms(), 2);
-    twice.times_root2()?;
-    let mut two = Elem::one(rt.alloc())?;
-    let one = two.copy()?;
-    two.add(&one)?;
-    assert!(rt; twice.same(&two));
-    assert!(rt; !twice.same(&one));
-    assert_eq!(rt; two.weight(), 2);
+// The first functions hide the clauses of what is tested: a test that knows less is proved sooner.
+fn one(alloc: Global) -> Result<Elem, Memory> {
+    Elem::one(alloc)
+}
 
-    let mut turned = Elem::one(rt.alloc())?;
+fn copy(sum: &Elem) -> Result<Elem, Memory> {
+    sum.copy()
+}
+
+fn is_same(left: &Elem, right: &Elem) -> bool {
+    left.same(right)
+}
+
+fn is_zero(sum: &Elem) -> bool {
+    sum.is_zero()
+}
+
+fn weight(sum: &Elem) -> u128 {
+    sum.weight()
+}
+
+fn leading(sum: &Elem) -> Option<(Exponent, i128)> {
+    sum.leading()
+}
+
+fn term(sum: &Elem, k: u64) -> Option<(Exponent, i128)> {
+    if k < sum.terms() {
+        Some(sum.term(k))
+    } else {
+        None
+    }
+}
+
+// Adds a small sum to a small sum.
+fn add(rt: &impl Abort, sum: &mut Elem, other: &Elem) -> Result<(), Memory> {
+    assert!(rt; sum.weight() <= 100);
+    assert!(rt; other.weight() <= 100);
+    sum.add(other)
+}
+
+// Takes a small sum from a small sum.
+fn subtract(rt: &impl Abort, sum: &mut Elem, other: &Elem) -> Result<(), Memory> {
+    assert!(rt; sum.weight() <= 100);
+    assert!(rt; other.weight() <= 100);
+    sum.sub(other)
+}
+
+// Multiplies a small sum by the square root of 2.
+fn times_root2(rt: &impl Abort, sum: &mut Elem) -> Result<(), Memory> {
+    assert!(rt; sum.weight() <= 100);
+    sum.times_root2()
+}
+
+fn exponent(turn: u8, powers: [i64; 3]) -> Exponent {
+    Exponent {
+        turn: turn as u16,
+        powers,
+    }
+}
+
+// The square root of 2, twice, doubles.
+#[test]
+fn root2_twice_doubles(rt: HostRuntime) -> Result<(), Fail> {
+    let one = one(rt.alloc())?;
+    let mut twice = copy(&one)?;
+    times_root2(&rt, &mut twice)?;
+    assert_eq!(rt; twice.terms(), 2);
+    times_root2(&rt, &mut twice)?;
+    let mut two = copy(&one)?;
+    add(&rt, &mut two, &one)?;
+    assert!(rt; is_same(&twice, &two));
+    assert!(rt; !is_same(&twice, &one));
+    assert_eq!(rt; weight(&two), 2);
+    Ok(())
+}
+
+fn turned_one(alloc: Global) -> Result<Elem, Memory> {
+    let mut turned = Elem::one(alloc)?;
     turned.shift(Exponent {
         turn: 256,
         powers: [0; 3],
     });
-    assert_eq!(rt; turned.leading().map(|lead| lead.1), Some(-1));
-    turned.add(&one)?;
-    assert!(rt; turned.is_zero());
+    Ok(turned)
+}
+
+// One, turned by half a turn, is minus one: with one it is zero.
+#[test]
+fn half_a_turn_cancels(rt: HostRuntime) -> Result<(), Fail> {
+    let mut turned = turned_one(rt.alloc())?;
+    assert_eq!(rt; leading(&turned), Some((exponent(0, [0; 3]), -1)));
+    add(&rt, &mut turned, &one(rt.alloc())?)?;
+    assert!(rt; is_zero(&turned));
     Ok(())
 }
 
 // One has one term; less itself it is zero, which has none.
 #[test]
 fn one_has_one_term_and_zero_none(rt: HostRuntime) -> Result<(), Fail> {
-    let mut sum = Elem::one(rt.alloc())?;
-    let exponent = Exponent {
-        turn: 0,
-        powers: [0; 3],
-    };
-    assert_eq!(rt; sum.leading(), Some((exponent, 1)));
-    assert_eq!(rt; sum.term(0), (exponent, 1));
-    assert!(rt; !sum.is_zero());
-    let one = sum.copy()?;
-    sum.sub(&one)?;
-    assert!(rt; sum.is_zero());
-    assert_eq!(rt; sum.leading(), None);
-    assert!(rt; sum.same(&Elem::zero(rt.alloc())));
+    let mut sum = one(rt.alloc())?;
+    let monomial = Some((exponent(0, [0; 3]), 1));
+    assert_eq!(rt; leading(&sum), monomial);
+    assert_eq!(rt; term(&sum, 0), monomial);
+    assert!(rt; !is_zero(&sum));
+    let one = copy(&sum)?;
+    subtract(&rt, &mut sum, &one)?;
+    assert!(rt; is_zero(&sum));
+    assert_eq!(rt; leading(&sum), None);
+    assert!(rt; is_same(&sum, &Elem::zero(rt.alloc())));
     Ok(())
 }
 
-// The powers of the unknowns add up, and order the terms of one turn.
-#[test]
 #[tactic(auto, using(qz_ring::proofs::Sums::reach_times_le))]
-fn powers_add_up_and_order_the_terms(rt: HostRuntime) -> Result<(), Fail> {
+fn two_steps(alloc: Global) -> Result<Elem, Memory> {
     let step = Exponent {
         turn: 300,
         powers: [1, -2, 0],
     };
-    let mut product = Elem::one(rt.alloc())?;
+    let mut product = Elem::one(alloc)?;
     product.shift(step);
     product.shift(step);
-    let far = Exponent {
-        turn: 88,
-        powers: [2, -4, 0],
-    };
-    assert_eq!(rt; product.leading(), Some((far, 1)));
-    let mut same_turn = Elem::one(rt.alloc())?;
-    same_turn.shift(Exponent {
+    Ok(product)
+}
+
+fn same_turn(alloc: Global) -> Result<Elem, Memory> {
+    let mut product = Elem::one(alloc)?;
+    product.shift(Exponent {
         turn: 88,
         powers: [0, 0, 7],
     });
-    product.add(&same_turn)?;
+    Ok(product)
+}
+
+// The powers of the unknowns add up, and order the terms of one turn.
+#[test]
+fn powers_add_up_and_order_the_terms(rt: HostRuntime) -> Result<(), Fail> {
+    let mut product = two_steps(rt.alloc())?;
+    assert_eq!(rt; leading(&product), Some((exponent(88, [2, -4, 0]), 1)));
+    add(&rt, &mut product, &same_turn(rt.alloc())?)?;
     assert_eq!(rt; product.terms(), 2);
-    assert_eq!(rt; product.leading().map(|lead| lead.0.powers[2]), Some(7));
+    assert_eq!(rt; leading(&product), Some((exponent(88, [0, 0, 7]), 1)));
     Ok(())
 }
