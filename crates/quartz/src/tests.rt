@@ -3,5 +3,6 @@
 mod circuits;
 mod commands;
 mod equivalence;
+mod generation;
 mod sinks;
 mod sums;
