@@ -6,7 +6,7 @@ use Rattle.quartz.specs.Sink.{grown, HasPart}
 use Rattle.quartz.specs.Words.{Asks}
 use Rattle.quartz.specs.RuleText.{rule_text}
 
--- the classes of these limits aren't generated yet: there may be over two gates, over two qubits, or parameters
+-- the program does not generate the classes of these limits yet: there may be over two gates, over two qubits, or parameters
 abbrev pub is_unbuilt : Limits → Bool
 is_unbuilt b = nat_lt 2 b.n || nat_lt 2 b.q || nat_lt 0 b.m
 

@@ -14,7 +14,7 @@ use qz_circ::{Bounds, Which};
 use qz_repgen::generate_one;
 use std::alloc::Global;
 
-// Whether the classes of the bounds aren't generated yet.
+// Whether the program does not generate the classes of the bounds yet.
 fn is_unbuilt(b: Bounds) -> bool
     ensures { result ≡ is_unbuilt b }
 {
