@@ -9,9 +9,9 @@ use Rattle.quartz.specs.declared.words.WordFault.{WordFault}
 use Rattle.quartz.specs.declared.words.WordFault.TheVariants.{Limit}
 use Rattle.quartz.specs.Words.{asked, which_of, IsRefused}
 
--- the value of fewer than eighteen digits and one more is small
-pub small_value : (value i : ℕ) → value < 10 ^ i → i < 18 → 10 * value + 10 ≤ 10 ^ 18
-small_value value i small few = omega (arith, pow-succ' 10 i, pow-le-pow_right {n = 10} (omega arith) {i = suc i} {j = 18} (omega arith))
+-- the value of fewer than nineteen digits and one more fits 64 bits
+pub small_value : (value i : ℕ) → value < 10 ^ i → i < 19 → 10 * value + 10 ≤ 10 ^ 19
+small_value value i small few = omega (arith, pow-succ' 10 i, pow-le-pow_right {n = 10} (omega arith) {i = suc i} {j = 19} (omega arith))
 
 -- the answer for words that are refused for this number
 abbrev pub refused_for : Which → Result Limits WordFault

@@ -150,40 +150,36 @@ fn wants(out: &MemSink) -> u64 {
     out.wants()
 }
 
-// The words of this text give these rules, and the status of success.
-fn writes(rt: &impl Abort, alloc: Global, text: &str, rules: &str) -> Result<(), AllocError> {
-    let words = words_of(alloc, text)?;
+// Whether the words give these rules, and the status of success.
+fn is_written(alloc: Global, words: &[String], rules: &str) -> bool {
     let mut out = sink(alloc);
-    let status = answer(alloc, &words, &mut out);
-    assert_eq!(rt; status, Status::Ok, "at {text}");
-    assert_eq!(rt; written(&out), rules.as_bytes(), "at {text}");
-    assert_eq!(rt; wants(&out), 0);
-    Ok(())
+    let status = answer(alloc, words, &mut out);
+    status == Status::Ok && written(&out) == rules.as_bytes() && wants(&out) == 0
+}
+
+// The words of this text give these rules.
+fn writes(rt: &impl Abort, alloc: Global, text: &str, rules: &str) {
+    let done = words_of(alloc, text).is_ok_and(|words| is_written(alloc, &words, rules));
+    assert!(rt; done, "at {text}");
 }
 
 #[test]
-fn writes_rules(rt: HostRuntime) -> Result<(), Fail> {
+fn writes_rules(rt: HostRuntime) {
     let alloc = rt.alloc();
     let none = "quartz-rules 1\nbounds 0 1 0\nclasses 0\nend\n";
-    writes(&rt, alloc, "generate 0 1 0", none)?;
+    writes(&rt, alloc, "generate 0 1 0", none);
     let none = "quartz-rules 1\nbounds 1 2 0\nclasses 0\nend\n";
-    writes(&rt, alloc, "generate 01 2 000", none)?;
-    writes(&rt, alloc, "generate 2 1 0", two_gates())?;
+    writes(&rt, alloc, "generate 01 2 000", none);
+    writes(&rt, alloc, "generate 2 1 0", two_gates());
     assert_eq!(rt; number_of(Status::Ok), 0);
-    Ok(())
 }
 
-// How many lines the text has.
-fn line_count(text: &[u8]) -> Option<usize> {
-    Some(str::from_utf8(text).ok()?.lines().count())
+fn has_lines(text: &[u8], count: usize) -> bool {
+    str::from_utf8(text).is_ok_and(|text| text.lines().count() == count)
 }
 
-fn begins_with(text: &[u8], head: &str) -> bool {
-    text.starts_with(head.as_bytes())
-}
-
-fn ends_with(text: &[u8], end: &str) -> bool {
-    text.ends_with(end.as_bytes())
+fn has_head_of_two_qubits(text: &[u8]) -> bool {
+    text.starts_with(b"quartz-rules 1\nbounds 2 2 0\nclasses 130\nclass 21\n-\nh 0;h 0\n")
 }
 
 #[test]
@@ -192,10 +188,13 @@ fn writes_130_classes_of_349_members_on_two_qubits(rt: HostRuntime) -> Result<()
     let words = words_of(alloc, "generate 2 2 0")?;
     let mut out = sink(alloc);
     assert_eq!(rt; answer(alloc, &words, &mut out), Status::Ok);
-    let head = "quartz-rules 1\nbounds 2 2 0\nclasses 130\nclass 21\n-\nh 0;h 0\n";
-    assert!(rt; begins_with(written(&out), head));
-    assert_eq!(rt; line_count(written(&out)), Some(3 + 130 + 349 + 1));
+    assert!(rt; has_head_of_two_qubits(written(&out)));
+    assert!(rt; has_lines(written(&out), 3 + 130 + 349 + 1));
     Ok(())
+}
+
+fn ends_with(text: &[u8], end: &str) -> bool {
+    text.ends_with(end.as_bytes())
 }
 
 // At a sink that takes so many bytes, the beginning of the rules is written.
@@ -219,71 +218,59 @@ fn ends_at_a_write_fault(rt: HostRuntime) -> Result<(), Fail> {
     Ok(())
 }
 
-// These words are refused with this status, and nothing is written.
-fn refuses(rt: &impl Abort, alloc: Global, words: &[String], status: Status) {
+// Whether the words are refused with this status, and nothing is written.
+fn is_refused(alloc: Global, words: &[String], status: Status) -> bool {
     let mut out = sink(alloc);
-    assert_eq!(rt; answer(alloc, words, &mut out), status, "at {words:?}");
-    assert_eq!(rt; written(&out).len(), 0, "at {words:?}");
+    answer(alloc, words, &mut out) == status && written(&out).is_empty()
 }
 
-fn refuses_text(
-    rt: &impl Abort,
-    alloc: Global,
-    text: &str,
-    status: Status,
-) -> Result<(), AllocError> {
-    let words = words_of(alloc, text)?;
-    refuses(rt, alloc, &words, status);
-    Ok(())
+// The words of this text are refused with this status.
+fn refuses(rt: &impl Abort, alloc: Global, text: &str, status: Status) {
+    let done = words_of(alloc, text).is_ok_and(|words| is_refused(alloc, &words, status));
+    assert!(rt; done, "at {text}");
 }
 
 #[test]
-fn refuses_words(rt: HostRuntime) -> Result<(), Fail> {
+fn refuses_words(rt: HostRuntime) {
     let alloc = rt.alloc();
-    refuses(&rt, alloc, &[], Status::Usage);
-    for text in [
-        "",
-        "generate 2 1",
-        "generate 2 1 x",
-        "generate 2 1 ",
-        "generate 2 +1 0",
-        "generate 2 1 0000000000000000000",
-        "generate 9 9 x",
-        "generate 2 1 0 --seed 1",
-        "tidy now",
-        "optimise",
-    ] {
-        refuses_text(&rt, alloc, text, Status::Usage)?;
-    }
+    assert!(rt; is_refused(alloc, &[], Status::Usage));
+    let usage = Status::Usage;
+    refuses(&rt, alloc, "", usage);
+    refuses(&rt, alloc, "generate 2 1", usage);
+    refuses(&rt, alloc, "generate 2 1 x", usage);
+    refuses(&rt, alloc, "generate 2 1 ", usage);
+    refuses(&rt, alloc, "generate 2 +1 0", usage);
+    refuses(&rt, alloc, "generate 2 1 0000000000000000000", usage);
+    refuses(&rt, alloc, "generate 9 9 x", usage);
+    refuses(&rt, alloc, "generate 2 1 0 --seed 1", usage);
+    refuses(&rt, alloc, "tidy now", usage);
+    refuses(&rt, alloc, "optimise", usage);
     assert_eq!(rt; number_of(Status::Usage), 2);
-    Ok(())
 }
 
 #[test]
-fn refuses_numbers_past_a_limit(rt: HostRuntime) -> Result<(), Fail> {
+fn refuses_numbers_past_a_limit(rt: HostRuntime) {
     let alloc = rt.alloc();
-    for (text, which) in [
-        ("generate 2 4 0", Which::BoundsQubits),
-        ("generate 7 1 0", Which::BoundsGates),
-        ("generate 1 1 4", Which::BoundsParams),
-        ("generate 5 2 2", Which::BoundsCircuits),
-        (
-            "generate 999999999999999999 000000000000000004 9",
-            Which::BoundsQubits,
-        ),
-    ] {
-        refuses_text(&rt, alloc, text, Status::Limit(which))?;
-        assert_eq!(rt; number_of(Status::Limit(which)), 3);
+    let qubits = Status::Limit(Which::BoundsQubits);
+    let gates = Status::Limit(Which::BoundsGates);
+    let params = Status::Limit(Which::BoundsParams);
+    let circuits = Status::Limit(Which::BoundsCircuits);
+    refuses(&rt, alloc, "generate 2 4 0", qubits);
+    refuses(&rt, alloc, "generate 7 1 0", gates);
+    refuses(&rt, alloc, "generate 1 1 4", params);
+    refuses(&rt, alloc, "generate 5 2 2", circuits);
+    let padded = "generate 999999999999999999 000000000000000004 9";
+    refuses(&rt, alloc, padded, qubits);
+    for status in [qubits, gates, params, circuits] {
+        assert_eq!(rt; number_of(status), 3);
     }
-    Ok(())
 }
 
 #[test]
-fn refuses_what_is_not_built(rt: HostRuntime) -> Result<(), Fail> {
+fn refuses_what_is_not_built(rt: HostRuntime) {
     let alloc = rt.alloc();
-    for text in ["generate 0 3 0", "generate 3 1 0", "generate 2 1 1"] {
-        refuses_text(&rt, alloc, text, Status::Unbuilt)?;
-    }
+    refuses(&rt, alloc, "generate 0 3 0", Status::Unbuilt);
+    refuses(&rt, alloc, "generate 3 1 0", Status::Unbuilt);
+    refuses(&rt, alloc, "generate 2 1 1", Status::Unbuilt);
     assert_eq!(rt; number_of(Status::Unbuilt), 11);
-    Ok(())
 }
