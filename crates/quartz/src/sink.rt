@@ -16,10 +16,10 @@ pub trait Sink {
     /// All bytes that were written, where the sink tells them.
     ghost written: { Self → Option (List ℕ) };
 
-    /// How often it has failed. The count stands still at 2^64 - 1.
+    /// How often it has failed. A sink that keeps this as a u64 lets it stand still at 2^64 - 1.
     ghost faults: { Self → ℕ };
 
-    /// How often it has wanted memory in vain. The count stands still at 2^64 - 1.
+    /// How often it has wanted memory in vain. It may stand still likewise.
     ghost wants: { Self → ℕ };
 
     /// Takes the first bytes of the piece, and answers how many.

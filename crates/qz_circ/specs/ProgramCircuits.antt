@@ -1,5 +1,5 @@
 -- Circuits of programs: which there are, what they mean, when two are the same unitary up to a phase, and their order.
--- They differ from those of rules in their angles, which are whole numbers of 512ths of a full turn.
+-- They differ from those of rules in their angles, which are whole numbers of 512ths of a full circle.
 use Rattle.std.specs.Prelude.{◌≢◌, ℕ, ◌<◌, ◌≤◌, Bool, true, false, List, [], ◌∷◌, length, count_by}
 use Rattle.std.specs.List.{AllByRecursion}
 use Rattle.std.specs.declared.cmp.Ordering.{Ordering}

@@ -3,7 +3,7 @@
 /// The angle of a rotation in a rule.
 #[derive(Clone, Copy, Debug, PartialEq, Eq)]
 pub enum Expr {
-    /// A number from 1 to 7, of eighths of a full turn (π/4).
+    /// A number from 1 to 7, of eighths of a full circle (π/4).
     Const(u8),
     /// The parameter with this number, from 0 on.
     Plus(u8),

@@ -1,14 +1,15 @@
-//! Worked values of the definitions, each proved by computing it.
-ghost use Rattle.std.specs.Prelude.{◌≡◌, [], ◌∷◌, length, slice_get, Some, pos, negsuc, ◌+◌, ◌*◌};
+//! Worked values of the definitions, nearly all of them proved by computing them.
+ghost use Rattle.std.specs.Prelude.{◌≡◌, ℕ, ◌<◌, [], ◌∷◌, length, slice_get, Some, pos, negsuc, ◌+◌, ◌*◌};
+ghost use Rattle.std.specs.declared.cmp.Ordering.TheVariants.{Less, Greater};
 ghost use Rattle.qz_circ.specs.declared.circuit.Expr.TheVariants.{Const, Plus, Minus, Sum};
-ghost use Rattle.qz_circ.specs.declared.circuit.Inst.TheVariants.{Rz as ProgramRz};
+ghost use Rattle.qz_circ.specs.declared.circuit.Inst.TheVariants.{X as ProgramX, Cx as ProgramCx, Rz as ProgramRz};
 ghost use Rattle.qz_circ.specs.declared.circuit.Op.TheVariants.{H, X, Cx, Rz};
 ghost use Rattle.qz_circ.specs.Circuit.{angles};
 ghost use Rattle.qz_circ.specs.Exponent.{zero_exponent, turn_of, angle_value};
 ghost use Rattle.qz_circ.specs.Joined.{Joined};
 ghost use Rattle.qz_circ.specs.Order.{all_circuits, rank, circuit_at};
 ghost use Rattle.qz_circ.specs.Paths.{paths, count, root2};
-ghost use Rattle.qz_circ.specs.ProgramCircuits.{program_paths};
+ghost use Rattle.qz_circ.specs.ProgramCircuits.{IsProgramGate, program_paths, program_cmp};
 
 /// With at most two gates on one qubit there are 91 circuits; X and then a rotation by π/4 comes after 21 of them,
 /// and the last is two rotations by 7π/4.
@@ -23,7 +24,7 @@ pub fn ranks_of_two_gates()
 pub fn angles_come_in_order()
     ensures circuits { length (all_circuits (record { n = 2; q = 1; m = 1 })) ≡ 133 }
     ensures angles { length (angles 3) ≡ 16 }
-    ensures fourteenth { slice_get (angles 3) 14 ≡ Some (Sum 0 2) }
+    ensures at_14 { slice_get (angles 3) 14 ≡ Some (Sum 0 2) }
 {}
 
 /// CX on control 0 and target 1 takes state 1, where qubit 0 alone is 1, to state 3, where both are; and keeps state 2.
@@ -34,7 +35,7 @@ pub fn control_comes_first()
 {}
 
 /// A rotation by π/4 multiplies the qubit's 1 by ζ^64, one by a parameter by its unknown, one by the negative of a
-/// parameter by the inverse, and one by a sum by both; the 0 stays.
+/// parameter by the inverse, and one by a sum by both. The last leaves the 0 as it is.
 pub fn rotations_multiply_by_their_angle()
     ensures constant { count (paths 1 (Rz 0 (Const 1) ∷ []) 1 1) (turn_of 64) ≡ pos 1 }
     ensures parameter { count (paths 1 (Rz 0 (Plus 1) ∷ []) 1 1) (record { turn = 0; x0 = pos 0; x1 = pos 1; x2 = pos 0 }) ≡ pos 1 }
@@ -43,9 +44,28 @@ pub fn rotations_multiply_by_their_angle()
     ensures zero { count (paths 1 (Rz 0 (Sum 0 2) ∷ []) 0 0) zero_exponent ≡ pos 1 }
 {}
 
-/// Rotations of a program by 255 and by 2 are together one by 257.
+/// In a program on one qubit, rotations by 255·π/256 and by 2·π/256 have the ways of one by 257·π/256; and those by
+/// 511·π/256 and by π/256 have the ways of no gate.
 pub fn rotations_add_up()
-    ensures { program_paths 1 (ProgramRz 0 255 ∷ ProgramRz 0 2 ∷ []) 1 1 ≡ program_paths 1 (ProgramRz 0 257 ∷ []) 1 1 }
+    ensures two { (i j : ℕ) → i < 2 → j < 2 → program_paths 1 (ProgramRz 0 255 ∷ ProgramRz 0 2 ∷ []) i j ≡ program_paths 1 (ProgramRz 0 257 ∷ []) i j }
+    ensures none { (i j : ℕ) → i < 2 → j < 2 → program_paths 1 (ProgramRz 0 511 ∷ ProgramRz 0 1 ∷ []) i j ≡ program_paths 1 [] i j }
+{}
+
+/// The angles of program gates are from 1 to 511, and a CX is on two different qubits.
+pub fn program_gates_are_told()
+    ensures least { ¬ IsProgramGate 1 (ProgramRz 0 0) }
+    ensures first { IsProgramGate 1 (ProgramRz 0 1) }
+    ensures last { IsProgramGate 1 (ProgramRz 0 511) }
+    ensures most { ¬ IsProgramGate 1 (ProgramRz 0 512) }
+    ensures different { ¬ IsProgramGate 1 (ProgramCx 0 0) }
+{}
+
+/// Of program circuits on two qubits X comes before CX, a rotation of qubit 0 before one of qubit 1 whatever the angles,
+/// and one gate before two.
+pub fn program_circuits_come_in_order()
+    ensures kinds { program_cmp (ProgramX 1 ∷ []) (ProgramCx 0 1 ∷ []) ≡ Less }
+    ensures qubits { program_cmp (ProgramRz 0 2 ∷ []) (ProgramRz 1 1 ∷ []) ≡ Less }
+    ensures lengths { program_cmp (ProgramX 0 ∷ ProgramX 0 ∷ []) (ProgramRz 1 1 ∷ []) ≡ Greater }
 {}
 
 /// With parameters 0 and 1 bound to 100 and 500 turns, π/4 is 64 turns, the negative of parameter 0 is 412, and the
@@ -56,7 +76,7 @@ pub fn angles_have_values()
     ensures sum { angle_value (λ i. 100 + 400 * i) (Sum 0 1) ≡ 88 }
 {}
 
-/// Where the empty circuit and two flips are a class, three flips are joined to one by a step.
+/// Where the empty circuit and two flips are a class, three flips are joined to one flip.
 pub fn steps_join()
     ensures { Joined (([] ∷ (X 0 ∷ X 0 ∷ []) ∷ []) ∷ []) 3 (X 0 ∷ X 0 ∷ X 0 ∷ []) (X 0 ∷ []) }
 {}

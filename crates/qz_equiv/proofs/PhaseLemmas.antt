@@ -88,7 +88,7 @@ coefficient_none_or_some : (ts : Terms) (e : Monomial) → (coefficient_at ts e 
 coefficient_none_or_some [] e = inl refl
 coefficient_none_or_some (t ∷ ts) e = one_more t ts e (same_exponent t.exponent e) refl (coefficient_none_or_some ts e)
 
--- a count that isn't 0 is that of a term with the exponent or with half a turn more
+-- a count that isn't 0 is that of a term with the exponent or with half a circle more
 pub counted_term : (ts : Terms) (e : Monomial) → count ts e ≢ pos 0 → HasTerm ts e ⊎ HasTerm ts (with_turns e 256)
 counted_term ts e counted =
     ⊎_elim
@@ -103,7 +103,7 @@ counted_term ts e counted =
 minus_twice : (e u : Monomial) → IsMonomial e → IsMonomial u → minus e (minus e u) ≡ u
 minus_twice e u he hu = same_from_parts (minus e (minus e u)) u (omega arith) (omega (arith, ints)) (omega (arith, ints)) (omega (arith, ints))
 
--- the same, through half a turn more and back
+-- the same, through half a circle more and back
 minus_turned : (e u : Monomial) → IsMonomial e → IsMonomial u → with_turns (minus e (with_turns (minus e u) 256)) 256 ≡ u
 minus_turned e u he hu = same_from_parts (with_turns (minus e (with_turns (minus e u) 256)) 256) u (omega arith) (omega (arith, ints)) (omega (arith, ints)) (omega (arith, ints))
 

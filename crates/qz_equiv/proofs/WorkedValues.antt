@@ -1,17 +1,20 @@
 -- Circuits that are equivalent, some of them by a phase that is a parameter; circuits that aren't; and one that isn't kept.
-use Rattle.std.proofs.Common.{◌≡◌, ℕ, zero, suc, ◌+◌, ◌-◌, ◌%◌, ◌<◌, [], ◌∷◌, ◌⊎◌, inl, inr, Bool, true, false, ap, sym, ◌∙◌, subst, refl, arith}
-use Rattle.std.specs.Prelude.{pos, ◌+ℤ◌, ◌-ℤ◌, if◌then◌else◌}
+use Rattle.std.proofs.Common.{◌≡◌, ℕ, zero, suc, ◌+◌, ◌-◌, ◌%◌, ◌<◌, List, [], ◌∷◌, ◌++◌, ◌⊎◌, inl, inr, Bool, true, false, ap, sym, ◌∙◌, subst, refl, arith}
+use Rattle.std.specs.Prelude.{pos, negsuc, neg_ℤ, ◌+ℤ◌, ◌-ℤ◌, if◌then◌else◌}
 use Rattle.std.proofs.lemmas.Int.{ints}
 use Rattle.qz_circ.specs.declared.circuit.Expr.TheVariants.{Const, Plus, Minus, Sum}
 use Rattle.qz_circ.specs.declared.circuit.Op.TheVariants.{X, Rz}
 use Rattle.qz_circ.specs.Circuit.{Circuit, Limits}
 use Rattle.qz_circ.specs.Exponent.{Exponent, IsExponent, zero_exponent, minus, param, same_exponent, with_turns, turn_of}
-use Rattle.qz_circ.specs.Paths.{count, total, paths, ways_through, entry, identity_ways, ways_along, root2}
+use Rattle.qz_circ.specs.Paths.{count, total, paths, ways_through, entry, identity_ways, ways_along, root2_once, root2, Path}
 use Rattle.qz_circ.specs.Equivalence.{scaled_ways, Equivalent}
 use Rattle.qz_circ.specs.Classes.{IsRepresentative, IsKept}
 use Rattle.qz_circ.specs.Order.{gate_cmp, circuit_cmp}
-use Rattle.qz_equiv.proofs.Exponents.{exponent_eq, minus-zero, Decides-same_exponent}
-use Rattle.qz_equiv.proofs.Totals.{count-times_one}
+use Rattle.qz_equiv.proofs.Exponents.{exponent_eq, minus_proper, minus-zero, Decides-same_exponent}
+use Rattle.qz_circ.specs.declared.circuit.Inst.TheVariants.{H as ProgramH}
+use Rattle.qz_circ.specs.ProgramCircuits.{ProgramCircuit, program_entry, program_paths, scaled_program_ways, EquivalentProgramCircuits}
+use Rattle.qz_equiv.specs.Entries.{AreProper, one_way}
+use Rattle.qz_equiv.proofs.Totals.{count-append, count-times_one, AreProper-root2_once, count-root2_once}
 
 -- a flip and then a turn by the parameter, and a turn by its negative and then a flip
 abbrev flip_first : Circuit
@@ -131,3 +134,62 @@ flips_not_kept h = not_both h.parts
     not_both : (X 0 ∷ X 0 ∷ X 0 ∷ [] ≡ []) ⊎ (IsRepresentative three_gates (X 0 ∷ X 0 ∷ []) × IsRepresentative three_gates (X 0 ∷ X 0 ∷ [])) → ⊥
     not_both (inl e) = cc
     not_both (inr parts) = flips_not_first parts.0
+
+-- half a circle further, the count has the other sign
+count-half : (ps : List Path) (e : Exponent) → IsExponent e → count ps (with_turns e 256) ≡ neg_ℤ (count ps e)
+unfolding count
+count-half ps e he =
+    let back : with_turns (with_turns e 256) 256 ≡ e = exponent_eq (with_turns (with_turns e 256) 256) e (omega arith) refl refl refl in
+    let there = ap (total ps) back in
+    omega (arith, ints)
+
+-- the square root of two, twice, doubles the count
+count-root2_twice : (ps : List Path) (e : Exponent) → AreProper ps → IsExponent e → count (root2_once (root2_once ps)) e ≡ count ps e +ℤ count ps e
+count-root2_twice ps e hp he =
+    let low = minus e (turn_of 64) in
+    let high = minus e (turn_of 192) in
+    let outer = count-root2_once (root2_once ps) e (AreProper-root2_once ps) he in
+    let at_low = count-root2_once ps low hp (minus_proper e (turn_of 64)) in
+    let at_high = count-root2_once ps high hp (minus_proper e (turn_of 192)) in
+    let most : minus low (turn_of 192) ≡ with_turns e 256 = exponent_eq (minus low (turn_of 192)) (with_turns e 256) (omega arith) (omega (arith, ints)) (omega (arith, ints)) (omega (arith, ints)) in
+    let same : minus high (turn_of 64) ≡ with_turns e 256 = exponent_eq (minus high (turn_of 64)) (with_turns e 256) (omega arith) (omega (arith, ints)) (omega (arith, ints)) (omega (arith, ints)) in
+    let past : minus high (turn_of 192) ≡ with_turns (minus low (turn_of 64)) 256 = exponent_eq (minus high (turn_of 192)) (with_turns (minus low (turn_of 64)) 256) (omega arith) (omega (arith, ints)) (omega (arith, ints)) (omega (arith, ints)) in
+    let first = ap (count ps) most ∙ count-half ps e he in
+    let second = ap (count ps) same ∙ count-half ps e he in
+    let third = ap (count ps) past ∙ count-half ps (minus low (turn_of 64)) (minus_proper low (turn_of 64)) in
+    omega (arith, ints)
+
+-- a way and the same with the other sign count nothing
+cancelled : (e : Exponent) → count (one_way false zero_exponent ++ one_way true zero_exponent) e ≡ count [] e
+unfolding count total
+cancelled e = none (same_exponent zero_exponent e) (same_exponent zero_exponent (with_turns e 256))
+  where
+    none : (s t : Bool) → ((if s then pos 1 else pos 0) +ℤ ((if s then negsuc 0 else pos 0) +ℤ pos 0)) -ℤ ((if t then pos 1 else pos 0) +ℤ ((if t then negsuc 0 else pos 0) +ℤ pos 0)) ≡ pos 0
+    none true true = refl
+    none true false = refl
+    none false true = refl
+    none false false = refl
+
+-- two H of a program
+abbrev two_h : ProgramCircuit
+two_h = ProgramH 0 ∷ ProgramH 0 ∷ []
+
+-- they count what no gate counts times two
+two_h_counts : (i j : ℕ) (e : Exponent) → i < 2 → j < 2 → IsExponent e → count (scaled_program_ways 1 two_h [] i j) e ≡ count (scaled_program_ways 1 [] two_h i j) e
+unfolding scaled_program_ways root2 root2_once program_paths ways_along ways_through identity_ways program_entry entry
+two_h_counts zero zero e hi hj he = count-append (one_way false zero_exponent) (one_way false zero_exponent) e ∙ sym (count-root2_twice (one_way false zero_exponent) e (omega arith, tt) he)
+two_h_counts zero (suc zero) e hi hj he = cancelled e
+two_h_counts (suc zero) zero e hi hj he = cancelled e
+two_h_counts (suc zero) (suc zero) e hi hj he = count-append (one_way false zero_exponent) (one_way false zero_exponent) e ∙ sym (count-root2_twice (one_way false zero_exponent) e (omega arith, tt) he)
+two_h_counts (suc (suc i)) j e hi hj he = absurd (omega arith)
+two_h_counts i (suc (suc j)) e hi hj he = absurd (omega arith)
+
+-- two H are no gate
+pub two_h_equivalent : EquivalentProgramCircuits 1 (ProgramH 0 ∷ ProgramH 0 ∷ []) []
+two_h_equivalent = (
+  zero_exponent,
+  record {
+    phase = omega arith;
+    counts = λ i j e hi hj he. two_h_counts i j e hi hj he ∙ ap (count (scaled_program_ways 1 [] two_h i j)) (sym (minus-zero e he));
+  },
+)

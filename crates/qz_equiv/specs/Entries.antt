@@ -66,7 +66,7 @@ pub record AddsWay (part : Terms) (way : Way) (old new : Terms) : Type 0 where
 abbrev pub ways_after : ℕ → Op → (ℕ → List Path) → ℕ → List Path
 ways_after size g ways i = flat_map (λ k. products (ways k) (entry g i k)) (below size)
 
--- for every ways of which old is the column, the sum is the entry of the ways to row i through one more gate
+-- whatever ways the old column stands for, the sum is the entry of the ways to row i through one more gate
 abbrev pub IsNextEntry : ℕ → Op → ℕ → List Terms → Terms → Type 0
 IsNextEntry size g i old sum = (n : ℕ) (ways : ℕ → List Path) → IsColumn size n ways old → IsEntry (n + 1) (ways_after size g ways i) sum
 

@@ -64,7 +64,7 @@ fn quotient_of(a: Exponent, b: Exponent) -> Exponent
     }
 }
 
-// The exponent with half a turn more.
+// The exponent with half a circle more.
 fn half_turn_more(e: Exponent) -> Exponent
     ensures value { result ≡ with_turns e 256 }
     ensures reach { reach_of result ≡ reach_of e }
@@ -76,7 +76,7 @@ fn half_turn_more(e: Exponent) -> Exponent
     }
 }
 
-// Whether x is the monomial times y, or is so with half a turn more.
+// Whether x is the monomial times y, or is so with half a circle more.
 fn same_either_way(x: &Matrix, y: &Matrix, by: Exponent) -> Result<bool, Memory>
     requires shape { SameShape x.now y.now }
     requires powers { MatrixPowersAtMost 100 y.now }

@@ -1,10 +1,12 @@
-//! Circuits with parameters or constants of which it is known whether they are equivalent, or kept, each the contract
-//! of a function with an empty body.
+//! Small circuits of which it is known whether they are equivalent, or kept, each the contract of a function with an
+//! empty body.
 ghost use Rattle.std.specs.Prelude.{[], ◌∷◌};
 ghost use Rattle.qz_circ.specs.declared.circuit.Expr.TheVariants.{Const, Plus, Minus, Sum};
+ghost use Rattle.qz_circ.specs.declared.circuit.Inst.TheVariants.{H as ProgramH};
 ghost use Rattle.qz_circ.specs.declared.circuit.Op.TheVariants.{X, Rz};
 ghost use Rattle.qz_circ.specs.Classes.{IsKept};
 ghost use Rattle.qz_circ.specs.Equivalence.{Equivalent};
+ghost use Rattle.qz_circ.specs.ProgramCircuits.{EquivalentProgramCircuits};
 
 /// A flip and then a rotation by a parameter is a rotation by its negative and then a flip, up to the phase that
 /// the parameter is.
@@ -13,7 +15,7 @@ pub fn flip_undoes_the_sign()
     ensures { Equivalent 1 (X 0 ∷ Rz 0 (Plus 0) ∷ []) (Rz 0 (Minus 0) ∷ X 0 ∷ []) }
 {}
 
-/// Rotations by one eighth and by two eighths of a full turn are not equivalent.
+/// Rotations by one eighth and by two eighths of a full circle are not equivalent.
 #[tactic(auto, using(crate::proofs::WorkedValues::turns_different))]
 pub fn different_turns_differ()
     ensures { ¬ Equivalent 1 (Rz 0 (Const 1) ∷ []) (Rz 0 (Const 2) ∷ []) }
@@ -35,4 +37,10 @@ pub fn different_parameters_differ()
 #[tactic(auto, using(crate::proofs::WorkedValues::flips_not_kept))]
 pub fn three_flips_are_not_kept()
     ensures { ¬ IsKept (record { n = 3; q = 1; m = 0 }) (X 0 ∷ X 0 ∷ X 0 ∷ []) }
+{}
+
+/// In programs, H twice is the same as no gate, once its two factors 1/√2 are made up for.
+#[tactic(auto, using(crate::proofs::WorkedValues::two_h_equivalent))]
+pub fn two_h_are_no_gate()
+    ensures { EquivalentProgramCircuits 1 (ProgramH 0 ∷ ProgramH 0 ∷ []) [] }
 {}

@@ -34,18 +34,18 @@ coefficient_at-past_half (t ∷ ts) e low past =
     turns_differ : (a b : Exponent) → a.turn ≢ b.turn → same_exponent a b ≡ false
     turns_differ a b differ = grind (arith, nat_tests)
 
--- below half a turn, the count is the coefficient
+-- below half a circle, the count is the coefficient
 pub count-below_half : (ts : Terms) → IsCanonical ts → (e : Exponent) → e.turn < 256 → count ts e ≡ coefficient_at ts e
 count-below_half ts canonical e low =
     let past : 256 ≤ (e.turn + 256) % 512 = omega arith in
     let none = coefficient_at-past_half ts (with_turns e 256) canonical.half_turns past in
     omega (arith, ints, none)
 
--- half a turn twice is no turn
+-- half a circle twice is no turn
 with_turns-twice : (e : Exponent) → IsExponent e → with_turns (with_turns e 256) 256 ≡ e
 with_turns-twice e in_circle = same_from_parts (with_turns (with_turns e 256) 256) e (let twice : ((e.turn + 256) % 512 + 256) % 512 ≡ e.turn = omega arith in twice) refl refl refl
 
--- half a turn further, the count has the other sign
+-- half a circle further, the count has the other sign
 pub count-half_turn : (ts : Terms) (e : Exponent) → IsExponent e → count ts (with_turns e 256) ≡ neg_ℤ (count ts e)
 count-half_turn ts e in_circle = rw (with_turns-twice e in_circle) (let flips : (x y : ℤ) → x -ℤ y ≡ neg_ℤ (y -ℤ x) = λ x y. omega (arith, ints) in flips (coefficient_at ts (with_turns e 256)) (coefficient_at ts e))
 
@@ -64,7 +64,7 @@ coefficient_at-head t ts canonical =
 pub same_term_from_parts : (a b : Term) → a.exponent ≡ b.exponent → a.coefficient ≡ b.coefficient → a ≡ b
 same_term_from_parts a b exponents coefficients = ap (λ (e : Exponent). record a { exponent = e }) exponents ∙ ap (λ (z : ℤ). record b { coefficient = z }) coefficients
 
--- the two lists have the same coefficients below half a turn
+-- the two lists have the same coefficients below half a circle
 abbrev pub SameCoefficients : Terms → Terms → Type 0
 SameCoefficients xs ys = (e : Exponent) → e.turn < 256 → coefficient_at xs e ≡ coefficient_at ys e
 
@@ -120,7 +120,7 @@ minus-twice e j k n in_circle j_in k_in sum =
     minus_none : (x : ℤ) → (x -ℤ pos 0) -ℤ pos 0 ≡ x -ℤ pos 0
     minus_none x = omega (arith, ints)
 
--- going back by half a turn and more is going on by half a turn from there
+-- going back by half a circle and more is going on by half a turn from there
 minus-past_half : (e : Exponent) (k n : ℕ) → e.turn < 512 → k < 512 → (k + 256) % 512 ≡ n → minus e (turn_alone n) ≡ with_turns (minus e (turn_alone k)) 256
 minus-past_half e k n in_circle k_in sum =
     same_from_parts (minus e (turn_alone n)) (with_turns (minus e (turn_alone k)) 256)
@@ -137,7 +137,7 @@ minus-none e in_circle =
     minus_nothing : (x : ℤ) → x -ℤ pos 0 ≡ x
     minus_nothing x = omega (arith, ints)
 
--- a count half a turn back has the other sign
+-- a count half a circle back has the other sign
 count-back_half : (ts : Terms) (e : Exponent) (k n : ℕ) → IsExponent e → k < 512 → (k + 256) % 512 ≡ n → count ts (minus e (turn_alone n)) ≡ neg_ℤ (count ts (minus e (turn_alone k)))
 count-back_half ts e k n in_circle k_in sum =
     ap (count ts) (minus-past_half e k n in_circle k_in sum) ∙ count-half_turn ts (minus e (turn_alone k)) (let low : (e.turn + (512 - k)) % 512 < 512 = omega arith in low)

@@ -11,7 +11,7 @@ SameCounts a b = (e : Exponent) → IsExponent e → count a e ≡ count b e
 abbrev pub CountsNothing : Terms → Type 0
 CountsNothing a = (e : Exponent) → IsExponent e → count a e ≡ pos 0
 
--- of the exponents below half a turn at which a counts something, lead is the least
+-- of the exponents below half a circle at which a counts something, lead is the least
 pub record IsLeast (a : Terms) (lead : Exponent) : Type 0 where
   pub half_turn : lead.turn < 256
   pub counted : count a lead ≢ pos 0
@@ -29,6 +29,6 @@ IsDifference a b new = (e : Exponent) → IsExponent e → count new e ≡ count
 abbrev pub IsTimesMonomial : Exponent → Terms → Terms → Type 0
 IsTimesMonomial by old new = (e : Exponent) → IsExponent e → count new e ≡ count old (minus e by)
 
--- new is old times the square root of 2, which is an eighth of a turn less three eighths of a turn
+-- new is old times the square root of 2, which is an eighth of a circle less three eighths of a circle
 abbrev pub IsTimesRoot2 : Terms → Terms → Type 0
 IsTimesRoot2 old new = (e : Exponent) → IsExponent e → count new e ≡ count old (minus e (turn_alone 64)) -ℤ count old (minus e (turn_alone 192))

@@ -8,7 +8,7 @@ use Rattle.qz_ring.specs.Counts.{IsTimesMonomial}
 abbrev pub below_half_turn : Exponent → Exponent
 below_half_turn e = record { turn = e.turn % 256; x0 = e.x0; x1 = e.x1; x2 = e.x2 }
 
--- the term times the monomial, where half a turn changes the sign
+-- the term times the monomial, where half a circle changes the sign
 abbrev pub shifted_term : Exponent → Term → Term
 shifted_term by t = let e = plus t.exponent by in record { exponent = below_half_turn e; coefficient = signed (nat_le 256 e.turn) t.coefficient }
 

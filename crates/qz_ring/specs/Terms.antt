@@ -30,7 +30,7 @@ abbrev pub coefficient_at : Terms → Exponent → ℤ
 coefficient_at [] e = pos 0
 coefficient_at (t ∷ ts) e = part_at t e +ℤ coefficient_at ts e
 
--- how often the monomial counts: half a turn further it counts with the other sign
+-- how often the monomial counts: half a circle further it counts with the other sign
 abbrev pub count : Terms → Exponent → ℤ
 count ts e = coefficient_at ts e -ℤ coefficient_at ts (with_turns e 256)
 

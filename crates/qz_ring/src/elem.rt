@@ -139,6 +139,7 @@ impl Elem {
         ensures weight { IfOk result (λ turned. weight_of turned ≡ weight_of self.now) }
         ensures reach { IfOk result (λ turned. largest_reach turned ≤ largest_reach self.now) }
     {
+        // Brings the type's invariant into the proof.
         let _ = &self.terms;
         let mut copy = self.copy()?;
         copy.shift(Exponent {
@@ -171,7 +172,7 @@ impl Elem {
         weigh(&self.terms)
     }
 
-    /// The least exponent below half a turn that counts something, by turn and then by the powers,
+    /// The least exponent below half a circle that counts something, by turn and then by the powers,
     /// and its count. There is none exactly where the sum counts nothing.
     pub fn leading(&self) -> Option<(Exponent, i128)>
         ensures none { IsNone result ↔ (self.now ≡ []) }
@@ -183,6 +184,7 @@ impl Elem {
         ensures counted { IfSome result (λ lead. count self.now lead.0 ≡ lead.1) }
         ensures nonzero { IfSome result (λ lead. lead.1 ≢ pos 0) }
     {
+        // Brings the type's invariant into the proof.
         let _ = &self.terms;
         if self.is_zero() {
             return None;
@@ -190,7 +192,7 @@ impl Elem {
         Some(self.term(0))
     }
 
-    /// The number of terms.
+    /// The number of terms. It also tells what holds of every sum: the one form of its list, and its bounds.
     pub fn terms(&self) -> u64
         ensures number { result ≡ length self.now }
         ensures canonical { IsCanonical self.now }

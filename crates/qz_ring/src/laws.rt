@@ -10,7 +10,7 @@ pub fn counts_determine_terms()
     ensures { (a b : Terms) → IsCanonical a → IsCanonical b → SameCounts a b → a ≡ b }
 {}
 
-/// Half a turn further, every count has the other sign.
+/// Half a circle further, every count has the other sign.
 pub fn half_turn_changes_sign()
     ensures { (a : Terms) (e : Monomial) → IsExponent e → count a (with_turns e 256) ≡ neg_ℤ (count a e) }
 {}

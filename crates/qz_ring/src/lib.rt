@@ -1,7 +1,7 @@
 //! Exact sums of monomials with whole coefficients.
 //!
 //! With ζ = e^(iπ/256), a monomial is ζ^turn · x0^a · x1^b · x2^c, where the turn counts modulo 512
-//! and the powers are whole numbers. Since ζ^256 = -1, half a turn changes the sign, so each sum has
+//! and the powers are whole numbers. Since ζ^256 = -1, half a circle changes the sign, so each sum has
 //! one form whose turns are all below 256.
 #![tactic(auto)]
 

@@ -8,7 +8,7 @@ ghost use Rattle.qz_ring.specs.Shifting.{shifted_term, IsShifted};
 use crate::exponent::Exponent;
 use crate::term::{Term, shifted};
 
-// Multiplies by the monomial: the terms that pass half a turn come to the front.
+// Multiplies by the monomial: the terms that pass half a circle come to the front.
 pub(crate) fn shift_terms(terms: &mut [Term], by: Exponent)
     requires canonical { IsCanonical terms.old }
     requires weight { weight_of terms.old ≤ 2 ^ 120 }

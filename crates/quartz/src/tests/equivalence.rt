@@ -44,7 +44,7 @@ fn equivalent_circuits_of_one_qubit(rt: HostRuntime) -> Result<(), Fail> {
     assert!(rt; decision(alloc, &[X, X], &[])?, "two X are none");
     assert!(rt;
         decision(alloc, &[H, X], &[half_turn, H])?,
-        "X after H is half a turn before H"
+        "X after H is half a circle before H"
     );
     assert!(rt;
         decision(alloc, &[X, half_turn, X], &[half_turn])?,

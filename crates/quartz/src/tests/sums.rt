@@ -91,7 +91,7 @@ fn turned_one(alloc: Global) -> Result<Elem, Memory> {
     Ok(turned)
 }
 
-// One, turned by half a turn, is minus one: with one it is zero.
+// One, turned by half a circle, is minus one: with one it is zero.
 #[test]
 fn half_a_turn_cancels(rt: HostRuntime) -> Result<(), Fail> {
     let mut turned = turned_one(rt.alloc())?;

@@ -11,6 +11,6 @@ pub returns-clause-angles : goal.returns-clause-angles
 unfolding angles
 returns-clause-angles _ = refl
 
-pub returns-clause-fourteenth : goal.returns-clause-fourteenth
+pub returns-clause-at_14 : goal.returns-clause-at_14
 unfolding angles
-returns-clause-fourteenth _ = refl
+returns-clause-at_14 _ = refl
