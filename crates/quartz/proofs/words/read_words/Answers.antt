@@ -1,5 +1,5 @@
-use Rattle.std.proofs.Common.{rules, ◌≡◌, map, string_bytes, refl, sym, ap, ◌∙◌, Some}
-use Rattle.quartz.specs.Words.{asked, which_of}
+use Rattle.std.proofs.Common.{rules, ◌≡◌, map, string_bytes, refl, Some}
+use Rattle.quartz.specs.Words.{asked}
 use Rattle.qz_circ.specs.Bounds.{refusal}
 use Rattle.quartz.proofs.WordLemmas.{limit_named}
 use Rattle.quartz.proofs.words.read_words.Goals as goal
