@@ -4,7 +4,7 @@ use Rattle.std.specs.List.{AllZip}
 use Rattle.std.specs.List.Sorted.{IsStrictlyIncreasing}
 use Rattle.qz_circ.specs.Circuit.{Circuit, Limits, Within}
 use Rattle.qz_circ.specs.Equivalence.{Equivalent}
-use Rattle.qz_circ.specs.Order.{is_before, rank}
+use Rattle.qz_circ.specs.Order.{is_before, rank, circuit_at}
 
 -- a circuit within the limits to which no earlier circuit within the limits is equivalent
 pub record IsRepresentative (b : Limits) (c : Circuit) : Type 0 where
@@ -50,3 +50,11 @@ pub record IsClassList (b : Limits) (classes : List (List ℕ)) : Type 0 where
   pub each_representative : ListsExactly (IsRepresentativeRank b) representatives
   pub each_list : AllZip (λ r list. ListsExactly (IsMemberRank b r) list) representatives lists
   pub several : classes ≡ filter (λ list. nat_lt 1 (length list)) lists
+
+-- any two circuits whose ranks are in the list are equivalent
+abbrev pub AreEquivalent : Limits → List ℕ → Type 0
+AreEquivalent b list = (r s : ℕ) → Contains list r → Contains list s → Equivalent b.q (circuit_at b r) (circuit_at b s)
+
+-- the members of each class are equivalent to each other
+abbrev pub HasEquivalentMembers : Limits → List (List ℕ) → Type 0
+HasEquivalentMembers b classes = (list : List ℕ) → Contains classes list → AreEquivalent b list

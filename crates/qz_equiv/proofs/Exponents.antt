@@ -69,3 +69,11 @@ with_turns-minus e r k = exponent_eq (minus (with_turns e k) r) (with_turns (min
 -- to take away the inverse and then the exponent itself changes nothing
 pub minus_undone : (e u : Exponent) → IsExponent e → IsExponent u → minus (minus e (minus zero_exponent u)) u ≡ e
 minus_undone e u he hu = exponent_eq (minus (minus e (minus zero_exponent u)) u) e (omega arith) (omega (arith, ints)) (omega (arith, ints)) (omega (arith, ints))
+
+-- two differences in either order
+pub minus-swap : (e a b : Exponent) → minus (minus e a) b ≡ minus (minus e b) a
+minus-swap e a b = exponent_eq (minus (minus e a) b) (minus (minus e b) a) (omega arith) (omega (arith, ints)) (omega (arith, ints)) (omega (arith, ints))
+
+-- two differences are the difference to the sum
+pub minus-minus : (e u v : Exponent) → IsExponent u → IsExponent v → minus (minus e u) v ≡ minus e (plus u v)
+minus-minus e u v hu hv = exponent_eq (minus (minus e u) v) (minus e (plus u v)) (omega arith) (omega (arith, ints)) (omega (arith, ints)) (omega (arith, ints))

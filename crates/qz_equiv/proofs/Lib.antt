@@ -2,6 +2,8 @@ pub mod Exponents
 pub mod Totals
 pub mod Starts
 pub mod EquivalenceLaws
+pub mod Transitivity
+pub mod Members
 pub mod WorkedValues
 pub mod GateWays
 pub mod GatheredLemmas

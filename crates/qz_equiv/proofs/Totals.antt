@@ -7,7 +7,7 @@ use Rattle.qz_circ.specs.Paths.{Path, total, count, times, products, root2_once}
 use Rattle.qz_ring.specs.Terms.{signed}
 use Rattle.qz_ring.proofs.Numbers.{signed-add}
 use Rattle.qz_equiv.specs.Entries.{AreProper, sign_of, one_way}
-use Rattle.qz_equiv.proofs.Exponents.{same_like, plus_there, plus_back, turned_proper, with_turns-minus, exponent_eq}
+use Rattle.qz_equiv.proofs.Exponents.{same_like, plus_there, plus_back, minus_proper, turned_proper, with_turns-minus, exponent_eq}
 
 -- proper ways end to end are proper
 pub AreProper-append : (ps rs : List Path) → AreProper ps → AreProper rs → AreProper (ps ++ rs)
@@ -135,4 +135,28 @@ count-root2_once ps e hp he =
     let half = total-root2_once ps (with_turns e 256) hp (turned_proper e 256) in
     let left = ap (total ps) (with_turns-minus e (turn_of 64) 256) in
     let right = ap (total ps) (with_turns-minus e (turn_of 192) 256) in
+    omega (arith, ints)
+
+-- half a circle further, the count has the other sign
+pub count-half : (ps : List Path) (e : Exponent) → IsExponent e → count ps (with_turns e 256) ≡ neg_ℤ (count ps e)
+unfolding count
+count-half ps e he =
+    let back : with_turns (with_turns e 256) 256 ≡ e = exponent_eq (with_turns (with_turns e 256) 256) e (omega arith) refl refl refl in
+    let there = ap (total ps) back in
+    omega (arith, ints)
+
+-- the square root of two, twice, doubles the count
+pub count-root2_twice : (ps : List Path) (e : Exponent) → AreProper ps → IsExponent e → count (root2_once (root2_once ps)) e ≡ count ps e +ℤ count ps e
+count-root2_twice ps e hp he =
+    let low = minus e (turn_of 64) in
+    let high = minus e (turn_of 192) in
+    let outer = count-root2_once (root2_once ps) e (AreProper-root2_once ps) he in
+    let at_low = count-root2_once ps low hp (minus_proper e (turn_of 64)) in
+    let at_high = count-root2_once ps high hp (minus_proper e (turn_of 192)) in
+    let most : minus low (turn_of 192) ≡ with_turns e 256 = exponent_eq (minus low (turn_of 192)) (with_turns e 256) (omega arith) (omega (arith, ints)) (omega (arith, ints)) (omega (arith, ints)) in
+    let same : minus high (turn_of 64) ≡ with_turns e 256 = exponent_eq (minus high (turn_of 64)) (with_turns e 256) (omega arith) (omega (arith, ints)) (omega (arith, ints)) (omega (arith, ints)) in
+    let past : minus high (turn_of 192) ≡ with_turns (minus low (turn_of 64)) 256 = exponent_eq (minus high (turn_of 192)) (with_turns (minus low (turn_of 64)) 256) (omega arith) (omega (arith, ints)) (omega (arith, ints)) (omega (arith, ints)) in
+    let first = ap (count ps) most ∙ count-half ps e he in
+    let second = ap (count ps) same ∙ count-half ps e he in
+    let third = ap (count ps) past ∙ count-half ps (minus low (turn_of 64)) (minus_proper low (turn_of 64)) in
     omega (arith, ints)

@@ -14,7 +14,7 @@ use Rattle.qz_equiv.proofs.Exponents.{exponent_eq, minus_proper, minus-zero, Dec
 use Rattle.qz_circ.specs.declared.circuit.Inst.TheVariants.{H as ProgramH}
 use Rattle.qz_circ.specs.ProgramCircuits.{ProgramCircuit, program_entry, program_paths, scaled_program_ways, EquivalentProgramCircuits}
 use Rattle.qz_equiv.specs.Entries.{AreProper, one_way}
-use Rattle.qz_equiv.proofs.Totals.{count-append, count-times_one, AreProper-root2_once, count-root2_once}
+use Rattle.qz_equiv.proofs.Totals.{count-append, count-times_one, count-root2_twice}
 
 -- a flip and then a turn by the parameter, and a turn by its negative and then a flip
 abbrev flip_first : Circuit
@@ -134,30 +134,6 @@ flips_not_kept h = not_both h.parts
     not_both : (X 0 ∷ X 0 ∷ X 0 ∷ [] ≡ []) ⊎ (IsRepresentative three_gates (X 0 ∷ X 0 ∷ []) × IsRepresentative three_gates (X 0 ∷ X 0 ∷ [])) → ⊥
     not_both (inl e) = cc
     not_both (inr parts) = flips_not_first parts.0
-
--- half a circle further, the count has the other sign
-count-half : (ps : List Path) (e : Exponent) → IsExponent e → count ps (with_turns e 256) ≡ neg_ℤ (count ps e)
-unfolding count
-count-half ps e he =
-    let back : with_turns (with_turns e 256) 256 ≡ e = exponent_eq (with_turns (with_turns e 256) 256) e (omega arith) refl refl refl in
-    let there = ap (total ps) back in
-    omega (arith, ints)
-
--- the square root of two, twice, doubles the count
-count-root2_twice : (ps : List Path) (e : Exponent) → AreProper ps → IsExponent e → count (root2_once (root2_once ps)) e ≡ count ps e +ℤ count ps e
-count-root2_twice ps e hp he =
-    let low = minus e (turn_of 64) in
-    let high = minus e (turn_of 192) in
-    let outer = count-root2_once (root2_once ps) e (AreProper-root2_once ps) he in
-    let at_low = count-root2_once ps low hp (minus_proper e (turn_of 64)) in
-    let at_high = count-root2_once ps high hp (minus_proper e (turn_of 192)) in
-    let most : minus low (turn_of 192) ≡ with_turns e 256 = exponent_eq (minus low (turn_of 192)) (with_turns e 256) (omega arith) (omega (arith, ints)) (omega (arith, ints)) (omega (arith, ints)) in
-    let same : minus high (turn_of 64) ≡ with_turns e 256 = exponent_eq (minus high (turn_of 64)) (with_turns e 256) (omega arith) (omega (arith, ints)) (omega (arith, ints)) (omega (arith, ints)) in
-    let past : minus high (turn_of 192) ≡ with_turns (minus low (turn_of 64)) 256 = exponent_eq (minus high (turn_of 192)) (with_turns (minus low (turn_of 64)) 256) (omega arith) (omega (arith, ints)) (omega (arith, ints)) (omega (arith, ints)) in
-    let first = ap (count ps) most ∙ count-half ps e he in
-    let second = ap (count ps) same ∙ count-half ps e he in
-    let third = ap (count ps) past ∙ count-half ps (minus low (turn_of 64)) (minus_proper low (turn_of 64)) in
-    omega (arith, ints)
 
 -- a way and the same with the other sign count nothing
 cancelled : (e : Exponent) → count (one_way false zero_exponent ++ one_way true zero_exponent) e ≡ count [] e

@@ -1,6 +1,8 @@
-//! Laws of equivalence, each the contract of a function with an empty body.
-ghost use Rattle.std.specs.Prelude.{ℕ};
-ghost use Rattle.qz_circ.specs.Circuit.{Circuit};
+//! Laws of equivalence and of class lists, each the contract of a function with an empty body.
+ghost use Rattle.std.specs.Prelude.{ℕ, List};
+ghost use Rattle.qz_circ.specs.Bounds.{IsLawful};
+ghost use Rattle.qz_circ.specs.Circuit.{Circuit, Limits};
+ghost use Rattle.qz_circ.specs.Classes.{IsClassList, HasEquivalentMembers};
 ghost use Rattle.qz_circ.specs.Equivalence.{Equivalent};
 
 /// A circuit is equivalent to itself.
@@ -13,4 +15,14 @@ pub fn equivalence_is_reflexive()
 #[tactic(auto, using(crate::proofs::EquivalenceLaws::symmetric))]
 pub fn equivalence_is_symmetric()
     ensures { (q : ℕ) (a b : Circuit) → Equivalent q a b → Equivalent q b a }
+{}
+
+/// Circuits that are equivalent to one in the middle are equivalent.
+pub fn equivalence_is_transitive()
+    ensures { (q : ℕ) (a b c : Circuit) → Equivalent q a b → Equivalent q b c → Equivalent q a c }
+{}
+
+/// The members of a class of a class list are equivalent to each other.
+pub fn members_are_equivalent()
+    ensures { (b : Limits) → IsLawful b → (classes : List (List ℕ)) → IsClassList b classes → HasEquivalentMembers b classes }
 {}

@@ -6,7 +6,7 @@ ghost use Rattle.qz_circ.specs.Circuit.{Within};
 ghost use Rattle.qz_circ.specs.Bounds.{IsLawful};
 ghost use Rattle.qz_circ.specs.Equivalence.{Equivalent};
 ghost use Rattle.qz_circ.specs.Order.{all_circuits, circuit_at, rank};
-ghost use Rattle.qz_circ.specs.Classes.{IsKept, IsClassList};
+ghost use Rattle.qz_circ.specs.Classes.{IsKept, IsClassList, HasEquivalentMembers};
 ghost use Rattle.qz_repgen.specs.Progress.{Covers, AreFlags, representatives_of, circuits_in};
 
 mod progress;
@@ -24,6 +24,7 @@ use std::sync::ledger::{Blank, Ledger};
 pub fn generate_one(alloc: Global, b: Bounds) -> Result<Classes, Memory>
     ensures bounds { IfOk result (λ k. k.bounds ≡ b) }
     ensures classes { IfOk result (λ k. IsClassList b k.lists) }
+    ensures equivalent { IfOk result (λ k. HasEquivalentMembers b k.lists) }
 {
     generate::<Brand>(alloc, b, Blank::new(1))
 }
@@ -35,6 +36,7 @@ fn generate<L: Ledger>(alloc: Global, b: Bounds, blank: Blank) -> Result<Classes
     requires shared { 0 < L.parts }
     ensures bounds { IfOk result (λ k. k.bounds ≡ b) }
     ensures classes { IfOk result (λ k. IsClassList b k.lists) }
+    ensures equivalent { IfOk result (λ k. HasEquivalentMembers b k.lists) }
 {
     let mut steps = Steps::<L>::new(blank);
     let mut circuits = Vec::new(alloc);

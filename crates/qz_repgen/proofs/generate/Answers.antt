@@ -6,7 +6,8 @@ use Rattle.std.specs.declared.alloc.Global.{Global}
 use Rattle.qz_circ.specs.declared.circuit.Op.{Op}
 use Rattle.qz_circ.specs.ClassLists.{ClassLists, AreRanks}
 use Rattle.qz_circ.specs.Order.{all_circuits, circuit_at}
-use Rattle.qz_circ.specs.Classes.{IsClassList}
+use Rattle.qz_circ.specs.Classes.{IsClassList, HasEquivalentMembers}
+use Rattle.qz_equiv.proofs.Members.{members_equivalent}
 use Rattle.qz_repgen.specs.declared.progress.Class.{Class}
 use Rattle.qz_repgen.specs.Progress.{Covers, circuits_in, several_of}
 use Rattle.qz_repgen.proofs.LowerLaws.{ranks_are_order}
@@ -36,3 +37,8 @@ returns-clause-classes g c =
     let list = class_list c.args.b (ranks_are_order c.args.b c.circuits-r-end.ensures.lawful) c.loop-r.r (omega arith) c.loop-r.classes.items c.loop-r.invariant.classes in
     IfOk-weaker c.several.result (λ (k : ClassLists). k ≡ record { bounds = c.args.b; lists = several_of c.deref-2.result.now }) (λ k. IsClassList c.args.b k.lists)
     (λ k is. subst (IsClassList c.args.b) (sym (ap (λ (x : ClassLists). x.lists) is ∙ ap several_of c.deref-2.ensures.value)) list) c.several.ensures
+
+pub returns-clause-equivalent : goal.returns-clause-equivalent
+returns-clause-equivalent g c =
+    IfOk-weaker c.several.result (λ (k : ClassLists). IsClassList c.args.b k.lists) (λ k. HasEquivalentMembers c.args.b k.lists)
+    (λ k is. members_equivalent c.args.b c.circuits-r-end.ensures.lawful k.lists is) (returns-clause-classes g c)
