@@ -27,7 +27,7 @@ pub enum Op {
 }
 
 /// A gate of a program, of Nam's gate set, on qubits that are numbered from 0.
-#[derive(Clone, Copy, Debug, PartialEq, Eq)]
+#[derive(Clone, Copy)]
 pub enum Inst {
     /// The Hadamard gate.
     H(u8),
