@@ -1,13 +1,12 @@
 -- Equivalence is transitive: the roots that the circuit in the middle owes cancel.
-use Rattle.std.proofs.Common.{◌≡◌, ℕ, zero, suc, ◌<◌, ◌^◌, List, [], ◌∷◌, true, false, refl, sym, ap, ◌∙◌, arith}
-use Rattle.std.specs.Prelude.{pos, ◌+ℤ◌, ◌==◌, Bool, fold}
+use Rattle.std.proofs.Common.{◌≡◌, ℕ, zero, suc, ◌^◌, List, [], ◌∷◌, true, false, refl, ap, ◌∙◌, arith}
+use Rattle.std.specs.Prelude.{pos, ◌==◌, Bool, fold}
 use Rattle.std.specs.List.{flat_map}
 use Rattle.std.proofs.lemmas.Int.{ints}
-use Rattle.qz_circ.specs.declared.circuit.Op.{Op}
 use Rattle.qz_circ.specs.Circuit.{Circuit, below}
 use Rattle.qz_circ.specs.Exponent.{Exponent, IsExponent, zero_exponent, plus, minus, turn_of}
 use Rattle.qz_circ.specs.Paths.{Path, Ways, count, products, way_if, entry, ways_through, identity_ways, ways_along, paths, root2_once, root2, halves}
-use Rattle.qz_circ.specs.Equivalence.{scaled_ways, SameUpTo, Equivalent}
+use Rattle.qz_circ.specs.Equivalence.{scaled_ways, Equivalent}
 use Rattle.qz_equiv.specs.Entries.{AreProper}
 use Rattle.qz_equiv.proofs.Exponents.{minus_proper, minus-swap, minus-minus}
 use Rattle.qz_equiv.proofs.Totals.{AreProper-append, AreProper-products, AreProper-root2_once, count-root2_once, count-root2_twice}
@@ -102,12 +101,12 @@ through_middle : (ha hb hc : ℕ) (u v : Exponent) (a b c : List Path) → IsExp
     Shifted u (root2 hb a) (root2 ha b) → Shifted v (root2 hc b) (root2 hb c) → Shifted (plus u v) (root2 hc a) (root2 ha c)
 through_middle ha hb hc u v a b c hu hv pa pb pc first second =
     unshifted_root2 hb (plus u v) (root2 hc a) (root2 ha c) (proper_root2 hc a pa) (proper_root2 ha c pc) (λ e he.
-        ap (λ ps. count ps e) (swapped hb hc a) ∙
-        shifted_root2 hc u (root2 hb a) (root2 ha b) (proper_root2 hb a pa) (proper_root2 ha b pb) first e he ∙
-        ap (λ ps. count ps (minus e u)) (swapped hc ha b) ∙
-        shifted_root2 ha v (root2 hc b) (root2 hb c) (proper_root2 hc b pb) (proper_root2 hb c pc) second (minus e u) (minus_proper e u) ∙
-        ap (λ ps. count ps (minus (minus e u) v)) (swapped ha hb c) ∙
-        ap (count (root2 hb (root2 ha c))) (minus-minus e u v hu hv))
+    ap (λ ps. count ps e) (swapped hb hc a) ∙
+    shifted_root2 hc u (root2 hb a) (root2 ha b) (proper_root2 hb a pa) (proper_root2 ha b pb) first e he ∙
+    ap (λ ps. count ps (minus e u)) (swapped hc ha b) ∙
+    shifted_root2 ha v (root2 hc b) (root2 hb c) (proper_root2 hc b pb) (proper_root2 hb c pc) second (minus e u) (minus_proper e u) ∙
+    ap (λ ps. count ps (minus (minus e u) v)) (swapped ha hb c) ∙
+    ap (count (root2 hb (root2 ha c))) (minus-minus e u v hu hv))
 
 -- equivalence goes on
 pub transitive : (q : ℕ) (a b c : Circuit) → Equivalent q a b → Equivalent q b c → Equivalent q a c
@@ -117,7 +116,7 @@ transitive q a b c first second = (
   record {
     phase = omega arith;
     counts = λ i j e hi hj. through_middle (halves a) (halves b) (halves c) first.0 second.0 (paths q a i j) (paths q b i j) (paths q c i j) first.1.phase second.1.phase
-      (proper_paths q a i j) (proper_paths q b i j) (proper_paths q c i j)
-      (λ d hd. first.1.counts i j d hi hj hd) (λ d hd. second.1.counts i j d hi hj hd) e;
+        (proper_paths q a i j) (proper_paths q b i j) (proper_paths q c i j)
+        (λ d hd. first.1.counts i j d hi hj hd) (λ d hd. second.1.counts i j d hi hj hd) e;
   },
 )

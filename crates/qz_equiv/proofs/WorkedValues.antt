@@ -1,19 +1,19 @@
 -- Circuits that are equivalent, some of them by a phase that is a parameter; circuits that aren't; and one that isn't kept.
-use Rattle.std.proofs.Common.{◌≡◌, ℕ, zero, suc, ◌+◌, ◌-◌, ◌%◌, ◌<◌, List, [], ◌∷◌, ◌++◌, ◌⊎◌, inl, inr, Bool, true, false, ap, sym, ◌∙◌, subst, refl, arith}
-use Rattle.std.specs.Prelude.{pos, negsuc, neg_ℤ, ◌+ℤ◌, ◌-ℤ◌, if◌then◌else◌}
+use Rattle.std.proofs.Common.{◌≡◌, ℕ, zero, suc, ◌+◌, ◌-◌, ◌%◌, ◌<◌, [], ◌∷◌, ◌++◌, ◌⊎◌, inl, inr, Bool, true, false, ap, sym, ◌∙◌, subst, refl, arith}
+use Rattle.std.specs.Prelude.{pos, negsuc, ◌+ℤ◌, ◌-ℤ◌, if◌then◌else◌}
 use Rattle.std.proofs.lemmas.Int.{ints}
 use Rattle.qz_circ.specs.declared.circuit.Expr.TheVariants.{Const, Plus, Minus, Sum}
 use Rattle.qz_circ.specs.declared.circuit.Op.TheVariants.{X, Rz}
 use Rattle.qz_circ.specs.Circuit.{Circuit, Limits}
 use Rattle.qz_circ.specs.Exponent.{Exponent, IsExponent, zero_exponent, minus, param, same_exponent, with_turns, turn_of}
-use Rattle.qz_circ.specs.Paths.{count, total, paths, ways_through, entry, identity_ways, ways_along, root2_once, root2, Path}
+use Rattle.qz_circ.specs.Paths.{count, total, paths, ways_through, entry, identity_ways, ways_along, root2_once, root2}
 use Rattle.qz_circ.specs.Equivalence.{scaled_ways, Equivalent}
 use Rattle.qz_circ.specs.Classes.{IsRepresentative, IsKept}
 use Rattle.qz_circ.specs.Order.{gate_cmp, circuit_cmp}
-use Rattle.qz_equiv.proofs.Exponents.{exponent_eq, minus_proper, minus-zero, Decides-same_exponent}
+use Rattle.qz_equiv.proofs.Exponents.{exponent_eq, minus-zero, Decides-same_exponent}
 use Rattle.qz_circ.specs.declared.circuit.Inst.TheVariants.{H as ProgramH}
 use Rattle.qz_circ.specs.ProgramCircuits.{ProgramCircuit, program_entry, program_paths, scaled_program_ways, EquivalentProgramCircuits}
-use Rattle.qz_equiv.specs.Entries.{AreProper, one_way}
+use Rattle.qz_equiv.specs.Entries.{one_way}
 use Rattle.qz_equiv.proofs.Totals.{count-append, count-times_one, count-root2_twice}
 
 -- a flip and then a turn by the parameter, and a turn by its negative and then a flip
