@@ -14,7 +14,7 @@ use std::alloc::Global;
 use std::marker::Model;
 
 /// The entries of one column of a matrix, from the first row on.
-#[derive(Debug, Drop)]
+#[derive(Drop)]
 pub(crate) struct Column {
     entries: Vec<Elem>,
 }
@@ -176,7 +176,7 @@ fn column_of_circuit(alloc: Global, q: u64, c: &[Op], h: u64, j: usize) -> Resul
 }
 
 /// The matrix of a circuit, from the first column on.
-#[derive(Debug, Drop)]
+#[derive(Drop)]
 pub(crate) struct Matrix {
     columns: Vec<Column>,
 }

@@ -8,7 +8,7 @@ use qz_circ::{Bounds, Classes, Memory};
 use std::alloc::Global;
 
 // A class so far: the rank of a representative, and the ranks of the kept circuits that are equivalent to it.
-#[derive(Debug, Drop)]
+#[derive(Drop)]
 pub(crate) struct Class {
     representative: u64,
     members: Vec<u64>,
