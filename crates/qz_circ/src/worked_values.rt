@@ -2,25 +2,25 @@
 ghost use Rattle.std.specs.Prelude.{◌≡◌, ℕ, ◌<◌, [], ◌∷◌, length, slice_get, Some, pos, negsuc, ◌+◌, ◌*◌};
 ghost use Rattle.std.specs.declared.cmp.Ordering.TheVariants.{Less, Greater};
 ghost use Rattle.qz_circ.specs.declared.circuit.Expr.TheVariants.{Const, Plus, Minus, Sum};
-ghost use Rattle.qz_circ.specs.declared.circuit.Inst.TheVariants.{X as ProgramX, Cx as ProgramCx, Rz as ProgramRz};
+ghost use Rattle.qz_circ.specs.declared.circuit.Inst.TheVariants.{H as ProgramH, X as ProgramX, Cx as ProgramCx, Rz as ProgramRz};
 ghost use Rattle.qz_circ.specs.declared.circuit.Op.TheVariants.{H, X, Cx, Rz};
 ghost use Rattle.qz_circ.specs.Circuit.{angles};
 ghost use Rattle.qz_circ.specs.Exponent.{zero_exponent, turn_of, angle_value};
 ghost use Rattle.qz_circ.specs.Joined.{Joined};
 ghost use Rattle.qz_circ.specs.Order.{all_circuits, rank, circuit_at};
 ghost use Rattle.qz_circ.specs.Paths.{paths, count, root2};
-ghost use Rattle.qz_circ.specs.ProgramCircuits.{IsProgramGate, program_paths, program_cmp};
+ghost use Rattle.qz_circ.specs.ProgramCircuits.{IsProgramGate, IsProgramCircuit, program_paths, program_cmp};
 
 /// With at most two gates on one qubit there are 91 circuits; X and then a rotation by π/4 comes after 21 of them,
 /// and the last is two rotations by 7π/4.
 pub fn ranks_of_two_gates()
     ensures circuits { length (all_circuits (record { n = 2; q = 1; m = 0 })) ≡ 91 }
-    ensures twenty_first { rank (record { n = 2; q = 1; m = 0 }) (X 0 ∷ Rz 0 (Const 1) ∷ []) ≡ 21 }
+    ensures at_21 { rank (record { n = 2; q = 1; m = 0 }) (X 0 ∷ Rz 0 (Const 1) ∷ []) ≡ 21 }
     ensures last { circuit_at (record { n = 2; q = 1; m = 0 }) 90 ≡ Rz 0 (Const 7) ∷ Rz 0 (Const 7) ∷ [] }
 {}
 
 /// With one parameter there are 133 circuits of at most two gates on one qubit. With three parameters there are 16
-/// angles, and the one at place 14 is the sum of parameters 0 and 2.
+/// angles, and the one at place 14, counted from 0, is the sum of parameters 0 and 2.
 pub fn angles_come_in_order()
     ensures circuits { length (all_circuits (record { n = 2; q = 1; m = 1 })) ≡ 133 }
     ensures angles { length (angles 3) ≡ 16 }
@@ -51,17 +51,20 @@ pub fn rotations_add_up()
     ensures none { (i j : ℕ) → i < 2 → j < 2 → program_paths 1 (ProgramRz 0 511 ∷ ProgramRz 0 1 ∷ []) i j ≡ program_paths 1 [] i j }
 {}
 
-/// The angles of program gates are from 1 to 511, and a CX is on two different qubits.
+/// On one qubit, rotations with the numbers 1 and 511 are gates of a program; those with 0 and 512 aren't, nor is a CX of
+/// qubit 0 on itself. Of H alone there is a circuit on 64 qubits, and on 65 there is none.
 pub fn program_gates_are_told()
     ensures least { ¬ IsProgramGate 1 (ProgramRz 0 0) }
     ensures first { IsProgramGate 1 (ProgramRz 0 1) }
     ensures last { IsProgramGate 1 (ProgramRz 0 511) }
     ensures most { ¬ IsProgramGate 1 (ProgramRz 0 512) }
     ensures different { ¬ IsProgramGate 1 (ProgramCx 0 0) }
+    ensures few { IsProgramCircuit 64 (ProgramH 63 ∷ []) }
+    ensures many { ¬ IsProgramCircuit 65 (ProgramH 63 ∷ []) }
 {}
 
-/// Of program circuits on two qubits X comes before CX, a rotation of qubit 0 before one of qubit 1 whatever the angles,
-/// and one gate before two.
+/// Of program circuits on two qubits X on qubit 1 comes before CX on 0 and 1; a rotation of qubit 0 comes before one of
+/// qubit 1 by a smaller angle; and two X come after one rotation.
 pub fn program_circuits_come_in_order()
     ensures kinds { program_cmp (ProgramX 1 ∷ []) (ProgramCx 0 1 ∷ []) ≡ Less }
     ensures qubits { program_cmp (ProgramRz 0 2 ∷ []) (ProgramRz 1 1 ∷ []) ≡ Less }
@@ -76,7 +79,8 @@ pub fn angles_have_values()
     ensures sum { angle_value (λ i. 100 + 400 * i) (Sum 0 1) ≡ 88 }
 {}
 
-/// Where the empty circuit and two flips are a class, three flips are joined to one flip.
+/// Where the empty circuit and two flips are a class, three flips are joined to one flip through circuits of at most
+/// three gates.
 pub fn steps_join()
     ensures { Joined (([] ∷ (X 0 ∷ X 0 ∷ []) ∷ []) ∷ []) 3 (X 0 ∷ X 0 ∷ X 0 ∷ []) (X 0 ∷ []) }
 {}

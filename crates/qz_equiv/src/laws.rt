@@ -17,12 +17,12 @@ pub fn equivalence_is_symmetric()
     ensures { (q : ℕ) (a b : Circuit) → Equivalent q a b → Equivalent q b a }
 {}
 
-/// Circuits that are equivalent to one in the middle are equivalent.
+/// A circuit that is equivalent to a second one is equivalent to each one that the second is equivalent to.
 pub fn equivalence_is_transitive()
     ensures { (q : ℕ) (a b c : Circuit) → Equivalent q a b → Equivalent q b c → Equivalent q a c }
 {}
 
-/// The members of a class of a class list are equivalent to each other.
+/// The members of each class of the class list of lawful limits are equivalent to each other.
 pub fn members_are_equivalent()
     ensures { (b : Limits) → IsLawful b → (classes : List (List ℕ)) → IsClassList b classes → HasEquivalentMembers b classes }
 {}

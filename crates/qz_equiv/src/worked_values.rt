@@ -8,8 +8,7 @@ ghost use Rattle.qz_circ.specs.Classes.{IsKept};
 ghost use Rattle.qz_circ.specs.Equivalence.{Equivalent};
 ghost use Rattle.qz_circ.specs.ProgramCircuits.{EquivalentProgramCircuits};
 
-/// A flip and then a rotation by a parameter is a rotation by its negative and then a flip, up to the phase that
-/// the parameter is.
+/// A flip and then a rotation by a parameter is, up to a phase, a rotation by its negative and then a flip.
 #[tactic(auto, using(crate::proofs::WorkedValues::flip_equivalent))]
 pub fn flip_undoes_the_sign()
     ensures { Equivalent 1 (X 0 ∷ Rz 0 (Plus 0) ∷ []) (Rz 0 (Minus 0) ∷ X 0 ∷ []) }
@@ -21,7 +20,7 @@ pub fn different_turns_differ()
     ensures { ¬ Equivalent 1 (Rz 0 (Const 1) ∷ []) (Rz 0 (Const 2) ∷ []) }
 {}
 
-/// Rotations by two parameters are one rotation by their sum.
+/// Rotations by two parameters are equivalent to one rotation by their sum.
 #[tactic(auto, using(crate::proofs::WorkedValues::sum_equivalent))]
 pub fn parameters_add_up()
     ensures { Equivalent 1 (Rz 0 (Plus 0) ∷ Rz 0 (Plus 1) ∷ []) (Rz 0 (Sum 0 1) ∷ []) }

@@ -7,9 +7,9 @@ pub returns-clause-circuits : goal.returns-clause-circuits
 unfolding all_circuits circuits_of gates_of angles
 returns-clause-circuits _ = refl
 
-pub returns-clause-twenty_first : goal.returns-clause-twenty_first
+pub returns-clause-at_21 : goal.returns-clause-at_21
 unfolding rank all_circuits circuits_of gates_of angles circuit_cmp gate_cmp
-returns-clause-twenty_first _ = refl
+returns-clause-at_21 _ = refl
 
 pub returns-clause-last : goal.returns-clause-last
 unfolding circuit_at all_circuits circuits_of gates_of angles
