@@ -1,5 +1,5 @@
 //! A command from its words to what it writes.
-ghost use Rattle.std.specs.Prelude.{◌≡◌, ◌⊎◌, ◌↔◌, ◌≤◌, false, map, string_bytes};
+ghost use Rattle.std.specs.Prelude.{◌≡◌, ◌⊎◌, ◌↔◌, ◌≤◌, map, string_bytes};
 ghost use Rattle.qz_circ.specs.Circuit.{Limits};
 ghost use Rattle.quartz.specs.Sink.{Rose};
 ghost use Rattle.quartz.specs.Words.{IsUsage, IsRefused};

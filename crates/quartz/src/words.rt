@@ -1,5 +1,5 @@
 //! The words of a command: what they ask for, and why they are refused.
-ghost use Rattle.std.specs.Prelude.{◌≡◌, ◌<◌, ◌^◌, ◌↔◌, map, length, string_bytes};
+ghost use Rattle.std.specs.Prelude.{◌≡◌, ◌<◌, ◌↔◌, map, string_bytes};
 ghost use Rattle.std.specs.Option.{option_map};
 ghost use Rattle.qz_circ.specs.Circuit.{Limits};
 ghost use Rattle.quartz.specs.Words.{number_of, limits_of, which_of, asked, IsUsage, IsRefused, Asks};

@@ -2,10 +2,11 @@
 use Rattle.std.proofs.Common.{◌≡◌, ℕ, zero, suc, ◌+◌, ◌-◌, ◌%◌, ◌<◌, [], ◌∷◌, ◌++◌, ◌⊎◌, inl, inr, Bool, true, false, ap, sym, ◌∙◌, subst, refl, arith}
 use Rattle.std.specs.Prelude.{pos, negsuc, ◌+ℤ◌, ◌-ℤ◌, if◌then◌else◌}
 use Rattle.std.proofs.lemmas.Int.{ints}
+use Rattle.qz_circ.specs.declared.circuit.Expr.{Expr}
 use Rattle.qz_circ.specs.declared.circuit.Expr.TheVariants.{Const, Plus, Minus, Sum}
 use Rattle.qz_circ.specs.declared.circuit.Op.TheVariants.{X, Rz}
 use Rattle.qz_circ.specs.Circuit.{Circuit, Limits}
-use Rattle.qz_circ.specs.Exponent.{Exponent, IsExponent, zero_exponent, minus, param, same_exponent, with_turns, turn_of}
+use Rattle.qz_circ.specs.Exponent.{Exponent, IsExponent, zero_exponent, plus, minus, param, angle_exponent, same_exponent, with_turns}
 use Rattle.qz_circ.specs.Paths.{count, total, paths, ways_through, entry, identity_ways, ways_along, root2_once, root2}
 use Rattle.qz_circ.specs.Equivalence.{scaled_ways, Equivalent}
 use Rattle.qz_circ.specs.Classes.{IsRepresentative, IsKept}
@@ -15,6 +16,15 @@ use Rattle.qz_circ.specs.declared.circuit.Inst.TheVariants.{H as ProgramH}
 use Rattle.qz_circ.specs.ProgramCircuits.{ProgramCircuit, program_entry, program_paths, scaled_program_ways, EquivalentProgramCircuits}
 use Rattle.qz_equiv.specs.Entries.{one_way}
 use Rattle.qz_equiv.proofs.Totals.{count-append, count-times_one, count-root2_twice}
+
+-- what holds between 0 and 1 holds between each two states of one qubit
+each_state : (P : ℕ → ℕ → Type 0) → P 0 0 → P 0 1 → P 1 0 → P 1 1 → (i j : ℕ) → i < 2 → j < 2 → P i j
+each_state P a b c d zero zero hi hj = a
+each_state P a b c d zero (suc zero) hi hj = b
+each_state P a b c d (suc zero) zero hi hj = c
+each_state P a b c d (suc zero) (suc zero) hi hj = d
+each_state P a b c d (suc (suc i)) j hi hj = absurd (omega arith)
+each_state P a b c d i (suc (suc j)) hi hj = absurd (omega arith)
 
 -- a flip and then a turn by the parameter, and a turn by its negative and then a flip
 abbrev flip_first : Circuit
@@ -53,18 +63,31 @@ phase_one u hu h =
     let x2 : pos 0 ≡ pos 0 -ℤ u.x2 = ap (λ (x : Exponent). x.x2) h in
     exponent_eq u zero_exponent (omega arith) (omega (arith, ints)) (omega (arith, ints)) (omega (arith, ints))
 
--- two turns by different constants
-pub turns_different : Equivalent 1 (Rz 0 (Const 1) ∷ []) (Rz 0 (Const 2) ∷ []) → ⊥
+-- rotations aren't equivalent where the first exponent is counted in the first and not in the second
+rotations_different : (a b : Expr) → IsExponent (angle_exponent a) →
+    count (record { sign = pos 1; exponent = plus zero_exponent (angle_exponent a) } ∷ []) (angle_exponent a) ≡ pos 1 →
+    count (record { sign = pos 1; exponent = plus zero_exponent (angle_exponent b) } ∷ []) (minus (angle_exponent a) zero_exponent) ≡ pos 0 →
+    Equivalent 1 (Rz 0 a ∷ []) (Rz 0 b ∷ []) → ⊥
 unfolding scaled_ways root2 paths ways_along ways_through identity_ways entry count total
-turns_different h =
+rotations_different a b proper counted uncounted h =
     let at_zero = h.1.counts 0 0 zero_exponent (omega arith) (omega arith) (omega arith) in
     let same = counted_once (same_exponent zero_exponent (minus zero_exponent h.0)) (same_exponent zero_exponent (with_turns (minus zero_exponent h.0) 256)) at_zero in
     let one = phase_one h.0 h.1.phase ((Decides-same_exponent zero_exponent (minus zero_exponent h.0)).0 same) in
-    let at_one = subst (λ (u : Exponent). count (record { sign = pos 1; exponent = turn_of 64 } ∷ []) (turn_of 64) ≡ count (record { sign = pos 1; exponent = turn_of 128 } ∷ []) (minus (turn_of 64) u)) one (h.1.counts 1 1 (turn_of 64) (omega arith) (omega arith) (omega arith)) in
-    absurd (one_zero at_one)
+    let at_one = subst (λ (u : Exponent). count (record { sign = pos 1; exponent = plus zero_exponent (angle_exponent a) } ∷ []) (angle_exponent a) ≡ count (record { sign = pos 1; exponent = plus zero_exponent (angle_exponent b) } ∷ []) (minus (angle_exponent a) u)) one (h.1.counts 1 1 (angle_exponent a) (omega arith) (omega arith) proper) in
+    absurd (one_zero (sym counted ∙ at_one ∙ uncounted))
   where
     one_zero : pos 1 ≡ pos 0 → ⊥
     one_zero h = cc
+
+-- by two different constants
+pub turns_different : Equivalent 1 (Rz 0 (Const 1) ∷ []) (Rz 0 (Const 2) ∷ []) → ⊥
+unfolding count total
+turns_different = rotations_different (Const 1) (Const 2) (omega arith) refl refl
+
+-- and by two different parameters
+pub parameters_different : Equivalent 1 (Rz 0 (Plus 0) ∷ []) (Rz 0 (Plus 1) ∷ []) → ⊥
+unfolding count total
+parameters_different = rotations_different (Plus 0) (Plus 1) (omega arith) refl refl
 
 -- circuits with the same ways between each two states of one qubit are equivalent
 same_ways : (a c : Circuit) → ((i j : ℕ) → i < 2 → j < 2 → scaled_ways 1 a c i j ≡ scaled_ways 1 c a i j) → Equivalent 1 a c
@@ -85,39 +108,16 @@ sum_at_once = Rz 0 (Sum 0 1) ∷ []
 
 sum_ways : (i j : ℕ) → i < 2 → j < 2 → scaled_ways 1 parameters_in_turn sum_at_once i j ≡ scaled_ways 1 sum_at_once parameters_in_turn i j
 unfolding scaled_ways root2 paths ways_along ways_through identity_ways entry
-sum_ways zero zero hi hj = refl
-sum_ways zero (suc zero) hi hj = refl
-sum_ways (suc zero) zero hi hj = refl
-sum_ways (suc zero) (suc zero) hi hj = refl
-sum_ways (suc (suc i)) j hi hj = absurd (omega arith)
-sum_ways i (suc (suc j)) hi hj = absurd (omega arith)
+sum_ways = each_state (λ i j. scaled_ways 1 parameters_in_turn sum_at_once i j ≡ scaled_ways 1 sum_at_once parameters_in_turn i j) refl refl refl refl
 
 -- by the phase 1
 pub sum_equivalent : Equivalent 1 (Rz 0 (Plus 0) ∷ Rz 0 (Plus 1) ∷ []) (Rz 0 (Sum 0 1) ∷ [])
 sum_equivalent = same_ways parameters_in_turn sum_at_once sum_ways
 
--- rotations by two different parameters
-pub parameters_different : Equivalent 1 (Rz 0 (Plus 0) ∷ []) (Rz 0 (Plus 1) ∷ []) → ⊥
-unfolding scaled_ways root2 paths ways_along ways_through identity_ways entry count total
-parameters_different h =
-    let at_zero = h.1.counts 0 0 zero_exponent (omega arith) (omega arith) (omega arith) in
-    let same = counted_once (same_exponent zero_exponent (minus zero_exponent h.0)) (same_exponent zero_exponent (with_turns (minus zero_exponent h.0) 256)) at_zero in
-    let one = phase_one h.0 h.1.phase ((Decides-same_exponent zero_exponent (minus zero_exponent h.0)).0 same) in
-    let at_one = subst (λ (u : Exponent). count (record { sign = pos 1; exponent = param 0 } ∷ []) (param 0) ≡ count (record { sign = pos 1; exponent = param 1 } ∷ []) (minus (param 0) u)) one (h.1.counts 1 1 (param 0) (omega arith) (omega arith) (omega arith)) in
-    absurd (one_zero at_one)
-  where
-    one_zero : pos 1 ≡ pos 0 → ⊥
-    one_zero h = cc
-
 -- no gate, and two flips
 no_gate_ways : (i j : ℕ) → i < 2 → j < 2 → scaled_ways 1 [] (X 0 ∷ X 0 ∷ []) i j ≡ scaled_ways 1 (X 0 ∷ X 0 ∷ []) [] i j
 unfolding scaled_ways root2 paths ways_along ways_through identity_ways entry
-no_gate_ways zero zero hi hj = refl
-no_gate_ways zero (suc zero) hi hj = refl
-no_gate_ways (suc zero) zero hi hj = refl
-no_gate_ways (suc zero) (suc zero) hi hj = refl
-no_gate_ways (suc (suc i)) j hi hj = absurd (omega arith)
-no_gate_ways i (suc (suc j)) hi hj = absurd (omega arith)
+no_gate_ways = each_state (λ i j. scaled_ways 1 [] (X 0 ∷ X 0 ∷ []) i j ≡ scaled_ways 1 (X 0 ∷ X 0 ∷ []) [] i j) refl refl refl refl
 
 abbrev three_gates : Limits
 three_gates = record { n = 3; q = 1; m = 0 }

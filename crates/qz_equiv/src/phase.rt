@@ -1,5 +1,5 @@
 //! Whether one matrix is a monomial times another.
-ghost use Rattle.std.specs.Prelude.{◌≡◌, ◌≢◌, ◌↔◌, ◌+◌, ◌<◌, ◌≤◌, ◌⊎◌, ℕ, pos, [], length, IsTrue, IfOk, MatchOption};
+ghost use Rattle.std.specs.Prelude.{◌≡◌, ◌≢◌, ◌↔◌, ◌+◌, ◌<◌, ◌≤◌, ◌⊎◌, pos, [], length, IsTrue, IfOk, MatchOption};
 ghost use Rattle.qz_ring.specs.Exponent.{Exponent as Monomial, IsExponent as IsMonomial, minus, with_turns, reach_of};
 ghost use Rattle.qz_ring.specs.Terms.{count, largest_reach};
 ghost use Rattle.qz_ring.specs.Counts.{IsTimesMonomial};

@@ -11,14 +11,6 @@ use Rattle.std.proofs.lemmas.List.Quantifiers.{all_pairs_push}
 use Rattle.qz_circ.specs.Classes.{ListsExactly}
 use Rattle.qz_repgen.specs.Progress.{ListsBelow}
 
--- no number is below 0
-pub none_below : (P : ℕ → Type 0) → ListsBelow 0 P []
-none_below P = record {
-  rising = λ i j d before in_range. absurd (omega arith);
-  each = λ r has. absurd (omega (arith, has.1));
-  all = λ r below fact. absurd (omega arith);
-}
-
 module _ (bound : ℕ) (P : ℕ → Type 0) (numbers : List ℕ) (lists : ListsBelow bound P numbers) where
   -- the bound itself is listed where the fact holds of it
   pub listed_with : P bound → ListsBelow (bound + 1) P (numbers ++ bound ∷ [])

@@ -1,7 +1,7 @@
 //! Generation of the class list: the classes of equivalent circuits within some bounds.
 #![tactic(auto)]
 
-ghost use Rattle.std.specs.Prelude.{◌≡◌, ◌+◌, ◌<◌, ◌≤◌, ◌↔◌, length, All, IsTrue, OnOk, IfOk, Contains, take, true};
+ghost use Rattle.std.specs.Prelude.{◌≡◌, ◌+◌, ◌<◌, ◌≤◌, ◌↔◌, length, IsTrue, OnOk, IfOk, Contains, take, true};
 ghost use Rattle.qz_circ.specs.Circuit.{Within};
 ghost use Rattle.qz_circ.specs.Bounds.{IsLawful};
 ghost use Rattle.qz_circ.specs.Equivalence.{Equivalent};

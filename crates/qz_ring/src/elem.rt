@@ -167,7 +167,9 @@ impl Elem {
 
     /// The sum of the absolute coefficients.
     pub fn weight(&self) -> u128
-        ensures { result ≡ weight_of self.now }
+        ensures value { result ≡ weight_of self.now }
+        ensures bounded { weight_of self.now ≤ 2 ^ 120 }
+        ensures reach { largest_reach self.now ≤ 2 ^ 40 }
     {
         weigh(&self.terms)
     }

@@ -1,6 +1,6 @@
 //! A sorted list of terms times a monomial, in place.
 
-ghost use Rattle.std.specs.Prelude.{◌≡◌, ◌+◌, ◌-◌, ◌%◌, ◌^◌, ◌<◌, ◌≤◌, map, length, take, drop};
+ghost use Rattle.std.specs.Prelude.{◌≡◌, ◌-◌, ◌%◌, ◌^◌, ◌<◌, ◌≤◌, map, length, take, drop};
 ghost use Rattle.std.specs.List.{All};
 ghost use Rattle.qz_ring.specs.Terms.{weight_of, largest_reach, reach_times, IsCanonical};
 ghost use Rattle.qz_ring.specs.Shifting.{shifted_term, IsShifted};
