@@ -45,7 +45,7 @@ place_in_pieces f n same xs i j e d h k =
     ap (λ m. get_or (flat_map f xs) (m + j) d) (sym front) ∙ get_or-flat_map f xs i j e d h inside
 
 -- what a function gives of an element stands in the list that it gives
-Contains-map : {A B : Type 0} (f : A → B) (xs : List A) (x : A) → Contains xs x → Contains (map f xs) (f x)
+pub Contains-map : {A B : Type 0} (f : A → B) (xs : List A) (x : A) → Contains xs x → Contains (map f xs) (f x)
 Contains-map f xs x (k, within, is) = (k, omega (arith, length-map xs f), get_or-map f xs k x (f x) within ∙ ap f is)
 
 -- what stands in a piece stands among the pieces
@@ -56,7 +56,7 @@ Contains-flat_map f xs x y (i, within, is) (j, inside, there) =
     (length (flat_map f (take i xs)) + j, omega (arith, length-flat_map-take f xs i x within), get_or-flat_map f xs i j x y within inside_piece ∙ ap (λ ys. get_or ys j y) piece ∙ there)
 
 -- a range in two parts
-range-append : (a n k : ℕ) → range_with_len a (n + k) ≡ range_with_len a n ++ range_with_len (a + n) k
+pub range-append : (a n k : ℕ) → range_with_len a (n + k) ≡ range_with_len a n ++ range_with_len (a + n) k
 range-append a zero k = λ i. range_with_len (a_is i) (zero-add k i)
   where
     a_is : a ≡ a + 0

@@ -24,11 +24,11 @@ pub contains_rest : {A : Type 0} (x : A) (xs : List A) (r : A) → Contains xs r
 contains_rest x xs r (k, in_range, same) = (suc k, omega arith, same)
 
 -- the rest of a rising list rises
-rises_tail : (x : ℕ) (xs : List ℕ) → Rises (x ∷ xs) → Rises xs
+pub rises_tail : (x : ℕ) (xs : List ℕ) → Rises (x ∷ xs) → Rises xs
 rises_tail x xs rises i j d before in_range = rises (suc i) (suc j) d (omega arith) (omega arith)
 
 -- the first number of a rising list is below the others
-first_below : (x : ℕ) (xs : List ℕ) → Rises (x ∷ xs) → (r : ℕ) → Contains xs r → x < r
+pub first_below : (x : ℕ) (xs : List ℕ) → Rises (x ∷ xs) → (r : ℕ) → Contains xs r → x < r
 first_below x xs rises r (k, in_range, same) = subst (λ y. x < y) same (rises zero (suc k) r (omega arith) (omega arith))
 
 -- rising lists with the same numbers are the same

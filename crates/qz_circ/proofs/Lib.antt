@@ -5,3 +5,17 @@ pub mod CircuitPlaces
 pub mod GateNumbers
 pub mod RankLemmas
 pub mod ClassLaws
+pub mod DerivedOrders
+pub mod DroppedGates
+pub mod SignedWays
+pub mod Exponents
+pub mod Totals
+pub mod Flips
+pub mod GateSteps
+pub mod Roots
+pub mod ProperWays
+pub mod TwoPlaces
+pub mod Through
+pub mod RuleGates
+pub mod PathCounts
+pub mod MoreParameters

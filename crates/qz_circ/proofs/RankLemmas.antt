@@ -20,7 +20,7 @@ use Rattle.qz_circ.proofs.CircuitPlaces.{circuits_within, all_contains, circuit_
 -- ---- the order of circuits
 
 -- the first different gate decides
-abbrev gates_before : Circuit → Circuit → Bool
+abbrev pub gates_before : Circuit → Circuit → Bool
 gates_before c d = is_lt (slice_cmp gate_cmp c d)
 
 -- circuits are totally ordered
@@ -37,14 +37,14 @@ pub before_one_way : (c d : Circuit) → is_before c d ≡ true → is_before d 
 before_one_way c d h = ap is_lt (circuit_cmp-total.antisymm d c ∙ ap ordering_reverse (less_is (circuit_cmp c d) h))
 
 -- of two circuits with one length the first different gate decides
-same_length_before : (k : ℕ) (c d : Circuit) → length c ≡ k → length d ≡ k → gates_before c d ≡ true → is_before c d ≡ true
+pub same_length_before : (k : ℕ) (c d : Circuit) → length c ≡ k → length d ≡ k → gates_before c d ≡ true → is_before c d ≡ true
 unfolding circuit_cmp
 same_length_before k c d p q h =
     let tied : nat_cmp (length c) (length d) ≡ nat_cmp k k = λ i. nat_cmp (p i) (q i) in
     ap (λ r. is_lt (ordering_then r (slice_cmp gate_cmp c d))) (tied ∙ tied_itself nat_cmp_total k) ∙ h
 
 -- a shorter circuit is before a longer one
-shorter_before : (j k : ℕ) (c d : Circuit) → length c ≡ j → length d ≡ k → j < k → is_before c d ≡ true
+pub shorter_before : (j k : ℕ) (c d : Circuit) → length c ≡ j → length d ≡ k → j < k → is_before c d ≡ true
 unfolding circuit_cmp
 shorter_before j k c d p q h =
     let less : nat_cmp (length c) (length d) ≡ Less = grind (arith, nat_tests) in

@@ -1,7 +1,8 @@
 -- Steps between circuits by a list of classes, and circuits that are joined by steps.
 use Rattle.std.specs.Prelude.{◌≡◌, ℕ, ◌-◌, ◌≤◌, List, [], ◌∷◌, ◌++◌, map, length, slice_get, Some, Contains}
 use Rattle.std.specs.List.{AllByRecursion}
-use Rattle.qz_circ.specs.Circuit.{Circuit, Limits}
+use Rattle.qz_circ.specs.Circuit.{Circuit, Limits, Within}
+use Rattle.qz_circ.specs.Equivalence.{Equivalent}
 use Rattle.qz_circ.specs.Order.{circuit_at}
 
 -- the classes as lists of circuits, where they are given as lists of ranks within b
@@ -34,3 +35,7 @@ pub record Joined (classes : List (List Circuit)) (n : ℕ) (x y : Circuit) : Ty
   pub starts : slice_get chain 0 ≡ Some x
   pub ends : slice_get chain (length chain - 1) ≡ Some y
   pub steps : AreSteps classes chain
+
+-- the classes join any two circuits within the limits that are equivalent, over circuits of no more gates than the limits allow
+abbrev pub JoinsEquivalent : Limits → List (List ℕ) → Type 0
+JoinsEquivalent b classes = (a c : Circuit) → Within b a → Within b c → Equivalent b.q a c → Joined (circuits_of_ranks b classes) b.n a c

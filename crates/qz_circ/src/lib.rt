@@ -7,7 +7,9 @@ pub mod circuit;
 pub mod class_list;
 pub mod fault;
 pub mod laws;
+pub mod order;
 pub mod ranks;
+pub mod report;
 pub mod step_count;
 pub mod worked_values;
 
@@ -15,5 +17,7 @@ pub use bound::Bounds;
 pub use circuit::{Expr, Inst, Op};
 pub use class_list::Classes;
 pub use fault::{LimitFault, Memory, Which};
-pub use ranks::{length_of, op_number, op_of, rank, unrank};
+pub use order::{prec, prec_insts};
+pub use ranks::{drop_first_rank, drop_last_rank, length_of, op_number, op_of, rank, unrank};
+pub use report::Report;
 pub use step_count::Steps;

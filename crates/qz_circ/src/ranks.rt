@@ -3,6 +3,7 @@ ghost use Rattle.std.specs.Prelude.{◌≡◌, ℕ, ◌+◌, ◌*◌, ◌<◌, �
 ghost use Rattle.qz_circ.specs.Circuit.{Within, gates_of, angles};
 ghost use Rattle.qz_circ.specs.Bounds.{gate_count};
 ghost use Rattle.qz_circ.specs.Order.{all_circuits, rank, circuit_at};
+ghost use Rattle.qz_circ.specs.Classes.{without_first, without_last};
 
 use crate::bound::Bounds;
 use crate::circuit::{Expr, Op};
@@ -184,6 +185,38 @@ pub fn length_of(r: u64, b: Bounds) -> u64
         len += 1;
     }
     len
+}
+
+/// The rank, without its first gate, of the circuit with rank r.
+pub fn drop_first_rank(r: u64, b: Bounds) -> u64
+    requires some_gate { 0 < r }
+    requires listed { r < length (all_circuits b) }
+    ensures rank { result ≡ rank b (without_first (circuit_at b r)) }
+    ensures circuit { circuit_at b result ≡ without_first (circuit_at b r) }
+    ensures listed { result < length (all_circuits b) }
+    ensures earlier { result < r }
+{
+    let gates = b.gates();
+    // The rank of the gates in front, and what a gate at their end is worth in r.
+    let mut first = r;
+    let mut place_value = 1;
+    while first > gates {
+        first = (first - 1) / gates;
+        place_value *= gates;
+    }
+    r - first * place_value
+}
+
+/// The rank, without its last gate, of the circuit with rank r.
+pub fn drop_last_rank(r: u64, b: Bounds) -> u64
+    requires some_gate { 0 < r }
+    requires listed { r < length (all_circuits b) }
+    ensures rank { result ≡ rank b (without_last (circuit_at b r)) }
+    ensures circuit { circuit_at b result ≡ without_last (circuit_at b r) }
+    ensures listed { result < length (all_circuits b) }
+    ensures earlier { result < r }
+{
+    (r - 1) / b.gates()
 }
 
 /// The circuit with this rank.
