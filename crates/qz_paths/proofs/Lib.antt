@@ -1,0 +1,10 @@
+pub mod Equivalences
+pub mod Members
+pub mod Runs
+pub mod Congruence
+pub mod Parts
+pub mod Least
+pub mod Chains
+pub mod ClassesFound
+pub mod Completeness
+pub mod OneQubit
