@@ -71,7 +71,36 @@ impl Elem {
         }
     }
 
-    /// Adds another sum.
+    /// The sum of the two, where both weights are together at most 2^120.
+    pub fn plus(&self, other: &Elem) -> Result<Elem, Memory>
+        requires { weight_of self.now + weight_of other.now ≤ 2 ^ 120 }
+        ensures counts { IfOk result (IsSum self.now other.now) }
+        ensures weight { IfOk result (λ sum. weight_of sum ≤ weight_of self.now + weight_of other.now) }
+        ensures reach { IfOk result (λ sum. largest_reach sum ≤ max (largest_reach self.now) (largest_reach other.now)) }
+    {
+        self.combined(other, false)
+    }
+
+    /// This sum less the other, where both weights are together at most 2^120.
+    pub fn minus(&self, other: &Elem) -> Result<Elem, Memory>
+        requires { weight_of self.now + weight_of other.now ≤ 2 ^ 120 }
+        ensures counts { IfOk result (IsDifference self.now other.now) }
+        ensures weight { IfOk result (λ difference. weight_of difference ≤ weight_of self.now + weight_of other.now) }
+        ensures reach { IfOk result (λ difference. largest_reach difference ≤ max (largest_reach self.now) (largest_reach other.now)) }
+    {
+        self.combined(other, true)
+    }
+
+    // The sum of the two, or, where the other is negated, their difference.
+    fn combined(&self, other: &Elem, negated: bool) -> Result<Elem, Memory>
+        requires { weight_of self.now + weight_of other.now ≤ 2 ^ 120 }
+        ensures { IfOk result (IsMerged negated self.now other.now) }
+    {
+        let terms = merge(*self.terms.allocator(), &self.terms, &other.terms, negated)?;
+        Ok(Elem { terms })
+    }
+
+    /// Adds another sum, where both weights are together at most 2^120.
     pub fn add(&mut self, other: &Elem) -> Result<(), Memory>
         requires { weight_of self.old + weight_of other.now ≤ 2 ^ 120 }
         ensures counts { OnOk result (IsSum self.old other.now self.new) }
@@ -79,10 +108,12 @@ impl Elem {
         ensures reach { OnOk result (largest_reach self.new ≤ max (largest_reach self.old) (largest_reach other.now)) }
         ensures err { OnErr result (self.new ≡ self.old) }
     {
-        self.combine(other, false)
+        let sum = self.plus(other)?;
+        *self = sum;
+        Ok(())
     }
 
-    /// Subtracts another sum.
+    /// Subtracts another sum, where both weights are together at most 2^120.
     pub fn sub(&mut self, other: &Elem) -> Result<(), Memory>
         requires { weight_of self.old + weight_of other.now ≤ 2 ^ 120 }
         ensures counts { OnOk result (IsDifference self.old other.now self.new) }
@@ -90,17 +121,8 @@ impl Elem {
         ensures reach { OnOk result (largest_reach self.new ≤ max (largest_reach self.old) (largest_reach other.now)) }
         ensures err { OnErr result (self.new ≡ self.old) }
     {
-        self.combine(other, true)
-    }
-
-    // Adds another sum, or subtracts it if it is negated.
-    fn combine(&mut self, other: &Elem, negated: bool) -> Result<(), Memory>
-        requires { weight_of self.old + weight_of other.now ≤ 2 ^ 120 }
-        ensures ok { OnOk result (IsMerged negated self.old other.now self.new) }
-        ensures err { OnErr result (self.new ≡ self.old) }
-    {
-        let merged = merge(*self.terms.allocator(), &self.terms, &other.terms, negated)?;
-        self.terms = merged;
+        let difference = self.minus(other)?;
+        *self = difference;
         Ok(())
     }
 
@@ -204,7 +226,7 @@ impl Elem {
         self.terms.len() as u64
     }
 
-    /// The exponent and the coefficient of the term at a place.
+    /// The exponent and the coefficient of the term at a place, counted from 0.
     pub fn term(&self, k: u64) -> (Exponent, i128)
         requires { k < length self.now }
         ensures value { slice_get self.now k ≡ Some (record { exponent = result.0; coefficient = result.1 }) }

@@ -1,8 +1,0 @@
-use Rattle.std.proofs.Common.{true}
-use Rattle.std.proofs.lemmas.Result.{on_ok_weaker}
-use Rattle.qz_ring.proofs.MergeSteps.{count-merged}
-use Rattle.qz_ring.proofs.elem.Elem.sub.Goals as goal
-
--- the counts of the merged list
-pub returns-clause-counts : goal.returns-clause-counts
-returns-clause-counts c = on_ok_weaker c.combine.result (λ merged e in_circle. count-merged true c.args.self.now c.args.other.now c.combine.new.self merged e) c.combine.ensures.ok
