@@ -1,13 +1,4 @@
-pub mod Exponents
-pub mod Totals
-pub mod Starts
-pub mod EquivalenceLaws
-pub mod Transitivity
-pub mod Members
 pub mod WorkedValues
-pub mod GateWays
-pub mod GatheredLemmas
-pub mod PushLemmas
-pub mod ColumnLemmas
+pub mod RootLemmas
 pub mod PhaseLemmas
 pub mod DecisionLemmas

@@ -1,14 +1,15 @@
 -- The monomials that can take one matrix to another are found among the exponents of one entry.
-use Rattle.std.proofs.Common.{◌≡◌, ◌≢◌, ℕ, zero, suc, ◌<◌, ◌≤◌, Bool, true, false, not, List, [], ◌∷◌, length, Option, Some, None, ℤ, pos, ◌-ℤ◌, neg_ℤ, FitsSigned, to_z, of_z, sym, ap, subst, ◌∙◌, refl, arith, ◌⊎◌, inl, inr, ⊎_elim}
-use Rattle.std.specs.Prelude.{unsigned_abs, slice_get, IsTrue, ◌↔◌, is_some, MatchOption}
+use Rattle.std.proofs.Common.{◌≡◌, ◌≢◌, ℕ, zero, suc, ◌<◌, ◌≤◌, Bool, true, false, [], ◌∷◌, length, Some, ℤ, pos, ◌-ℤ◌, neg_ℤ, FitsSigned, to_z, of_z, sym, ap, subst, ◌∙◌, refl, arith, ◌⊎◌, inl, inr, ⊎_elim}
+use Rattle.std.specs.Prelude.{unsigned_abs, slice_get, IsTrue, ◌↔◌}
 use Rattle.std.specs.Int.{w64}
 use Rattle.std.proofs.lemmas.Int.{ints, to_z-of_z, fits_signed_from_abs}
-use Rattle.qz_ring.specs.Exponent.{Exponent as Monomial, IsExponent as IsMonomial, minus, plus, with_turns, zero_exponent, reach_of, same_exponent}
+use Rattle.qz_ring.specs.Exponent.{Exponent as Monomial, IsExponent as IsMonomial, minus, with_turns, zero_exponent, reach_of, same_exponent}
 use Rattle.qz_ring.specs.Terms.{Term, Terms, count, coefficient_at, largest_reach}
 use Rattle.qz_ring.proofs.Numbers.{unsigned_abs-add, unsigned_abs-neg}
 use Rattle.qz_ring.proofs.Order.{same_from_parts, same_exponent-decides}
-use Rattle.qz_equiv.specs.Entries.{row, column}
-use Rattle.qz_equiv.specs.Phases.{IsMatrixShift, HasPhase, IsZeroMatrix, IsPivot, SameShape}
+use Rattle.qz_matrix.specs.Entries.{Entries, entry_at}
+use Rattle.qz_equiv.specs.Phases.{IsMultipleMatrix, HasPhase, IsZeroMatrix, IsPivot, AreAlike, AreAlikeMatrices, IsTimesRoots}
+use Rattle.qz_equiv.proofs.RootLemmas.{multiple_alike, zero_multiple}
 
 -- a small power fits its type, and so does the difference of two
 power_fits : (p : ℤ) → unsigned_abs p ≤ 200 → FitsSigned w64 p
@@ -107,75 +108,72 @@ minus_twice e u he hu = same_from_parts (minus e (minus e u)) u (omega arith) (o
 minus_turned : (e u : Monomial) → IsMonomial e → IsMonomial u → with_turns (minus e (with_turns (minus e u) 256)) 256 ≡ u
 minus_turned e u he hu = same_from_parts (with_turns (minus e (with_turns (minus e u) 256)) 256) u (omega arith) (omega (arith, ints)) (omega (arith, ints)) (omega (arith, ints))
 
--- neither monomial that takes the term at place k to the lead takes y to x
-abbrev pub FailsAt : Monomial → List (List Terms) → List (List Terms) → Terms → ℕ → Type 0
-FailsAt lead x y other k = (t : Term) → slice_get other k ≡ Some t → IsMatrixShift (minus lead t.exponent) x y ⊎ IsMatrixShift (with_turns (minus lead t.exponent) 256) x y → ⊥
+-- some monomial takes the one to the other
+abbrev pub Exists : (Monomial → Type 0) → Type 0
+Exists takes = (u : Monomial) × IsMonomial u × takes u
 
--- where every candidate fails, no monomial takes y to x
-pub no_phase : (lead : Monomial) (x y : List (List Terms)) (other : Terms) → IsMonomial lead → ((u : Monomial) → IsMonomial u → IsMatrixShift u x y → count other (minus lead u) ≢ pos 0) → ((k : ℕ) → k < length other → FailsAt lead x y other k) → HasPhase x y → ⊥
-no_phase lead x y other proper counted fails phase =
+-- neither monomial that takes the term at place k to the lead takes the one to the other
+abbrev pub FailsAt : Monomial → (Monomial → Type 0) → Terms → ℕ → Type 0
+FailsAt lead takes other k = (t : Term) → slice_get other k ≡ Some t → takes (minus lead t.exponent) ⊎ takes (with_turns (minus lead t.exponent) 256) → ⊥
+
+-- where every candidate fails, no monomial does
+pub no_phase : (lead : Monomial) (takes : Monomial → Type 0) (other : Terms) → IsMonomial lead → ((u : Monomial) → IsMonomial u → takes u → count other (minus lead u) ≢ pos 0) → ((k : ℕ) → k < length other → FailsAt lead takes other k) → Exists takes → ⊥
+no_phase lead takes other proper counted fails phase =
     ⊎_elim
     (λ some.
     let same : minus lead some.term.exponent ≡ phase.0 = ap (minus lead) some.exponent ∙ minus_twice lead phase.0 proper phase.1 in
-    fails some.place some.within some.term some.there (inl (subst (λ (u : Monomial). IsMatrixShift u x y) (sym same) phase.2)))
+    fails some.place some.within some.term some.there (inl (subst takes (sym same) phase.2)))
     (λ some.
     let same : with_turns (minus lead some.term.exponent) 256 ≡ phase.0 = ap (λ (e : Monomial). with_turns (minus lead e) 256) some.exponent ∙ minus_turned lead phase.0 proper phase.1 in
-    fails some.place some.within some.term some.there (inr (subst (λ (u : Monomial). IsMatrixShift u x y) (sym same) phase.2)))
+    fails some.place some.within some.term some.there (inr (subst takes (sym same) phase.2)))
     (counted_term other (minus lead phase.0) (counted phase.0 phase.1 phase.2))
 
 -- a candidate that passes is a phase
-pub candidate_phase : (by : Monomial) (x y : List (List Terms)) → IsMonomial by → IsMatrixShift by x y ⊎ IsMatrixShift (with_turns by 256) x y → HasPhase x y
-candidate_phase by x y proper h = ⊎_elim (λ same. (by, proper, same)) (λ same. (with_turns by 256, omega arith, same)) h
-
--- two zero matrices are equal up to any phase
-pub zero_phase : (x y : List (List Terms)) → SameShape x y → IsZeroMatrix x → IsZeroMatrix y → HasPhase x y
-zero_phase x y shape zero_x zero_y = (
-  zero_exponent,
-  omega arith,
-  λ j hj i hi e he.
-      ap (λ ts. count ts e) (zero_x j hj i hi) ∙
-      sym (ap (λ ts. count ts (minus e zero_exponent)) (zero_y j (subst (λ n. j < n) shape.columns hj) i (subst (λ n. i < n) (shape.rows j hj) hi))),
-)
-
--- a matrix that is zero isn't a monomial times one that isn't
-pub zero_no_phase : (x y : List (List Terms)) → SameShape x y → IsZeroMatrix x → (found : ℕ × ℕ × Monomial) → IsPivot y found → HasPhase x y → ⊥
-zero_no_phase x y shape zero_x found is phase =
-    let hj : found.0 < length x = subst (λ n. found.0 < n) (sym shape.columns) is.0 in
-    let hi : found.1 < length (column x found.0) = subst (λ n. found.1 < n) (sym (shape.rows found.0 hj)) is.1.0 in
-    let moved : minus (plus found.2 phase.0) phase.0 ≡ found.2 = plus_minus found.2 phase.0 is.1.1.proper phase.1 in
-    let none : pos 0 ≡ count (row (column y found.0) found.1) (minus (plus found.2 phase.0) phase.0) = sym (ap (λ ts. count ts (plus found.2 phase.0)) (zero_x found.0 hj found.1 hi)) ∙ phase.2 found.0 hj found.1 hi (plus found.2 phase.0) (omega arith) in
-    is.1.1.counted (sym (none ∙ ap (count (row (column y found.0) found.1)) moved))
-  where
-    plus_minus : (e u : Monomial) → IsMonomial e → IsMonomial u → minus (plus e u) u ≡ e
-    plus_minus e u he hu = same_from_parts (minus (plus e u) u) e (omega arith) (omega (arith, ints)) (omega (arith, ints)) (omega (arith, ints))
-
--- the answer for a matrix that is zero
-pub zero_case : (x y : List (List Terms)) → SameShape x y → IsZeroMatrix x → (o : Option (ℕ × ℕ × Monomial)) (b : Bool) → is_some o ≡ not b → MatchOption o (IsZeroMatrix y) (IsPivot y) → (IsTrue b ↔ HasPhase x y)
-zero_case x y shape zero_x None true is zero_y = (λ _. zero_phase x y shape zero_x zero_y, λ _. refl)
-zero_case x y shape zero_x None false is zero_y = cc
-zero_case x y shape zero_x (Some found) true is pivot = cc
-zero_case x y shape zero_x (Some found) false is pivot = (λ h. absurd (clash h), λ phase. absurd (zero_no_phase x y shape zero_x found pivot phase))
-  where
-    clash : false ≡ true → ⊥
-    clash h = cc
+pub candidate_phase : (by : Monomial) (takes : Monomial → Type 0) → IsMonomial by → takes by ⊎ takes (with_turns by 256) → Exists takes
+candidate_phase by takes proper h = ⊎_elim (λ same. (by, proper, same)) (λ same. (with_turns by 256, omega arith, same)) h
 
 -- where both candidates of a term fail
-pub candidate_fails : (lead by : Monomial) (x y : List (List Terms)) (other : Terms) (k : ℕ) (t : Term) (same : Bool) → by ≡ minus lead t.exponent → slice_get other k ≡ Some t → same ≡ false → (IsTrue same ↔ (IsMatrixShift by x y ⊎ IsMatrixShift (with_turns by 256) x y)) → FailsAt lead x y other k
-candidate_fails lead by x y other k t same by_is there fails told u also h =
+pub candidate_fails : (lead by : Monomial) (takes : Monomial → Type 0) (other : Terms) (k : ℕ) (t : Term) (same : Bool) → by ≡ minus lead t.exponent → slice_get other k ≡ Some t → same ≡ false → (IsTrue same ↔ (takes by ⊎ takes (with_turns by 256))) → FailsAt lead takes other k
+candidate_fails lead by takes other k t same by_is there fails told u also h =
     let same_term : t ≡ u = cc in
     let candidate : by ≡ minus lead u.exponent = by_is ∙ ap (λ (t : Term). minus lead t.exponent) same_term in
-    clash same fails (told.1 (subst (λ (v : Monomial). IsMatrixShift v x y ⊎ IsMatrixShift (with_turns v 256) x y) (sym candidate) h))
+    clash same fails (told.1 (subst (λ (v : Monomial). takes v ⊎ takes (with_turns v 256)) (sym candidate) h))
   where
     clash : (b : Bool) → b ≡ false → b ≡ true → ⊥
     clash b h k = cc
 
--- the answers of a search that found a phase, and of one that found none
-pub found_phase : (x y : List (List Terms)) → HasPhase x y → (IsTrue true ↔ HasPhase x y)
-found_phase x y h = (λ _. h, λ _. refl)
+-- the answer where it holds
+pub answer_yes : {P : Type 0} → P → (IsTrue true ↔ P)
+answer_yes h = (λ _. h, λ _. refl)
 
--- the answer of a search that found no phase
-pub found_none : (x y : List (List Terms)) → (HasPhase x y → ⊥) → (IsTrue false ↔ HasPhase x y)
-found_none x y h = (λ t. absurd (clash t), λ phase. absurd (h phase))
+-- the answer where it doesn't
+pub answer_no : {P : Type 0} → (P → ⊥) → (IsTrue false ↔ P)
+answer_no h = (λ t. absurd (clash t), λ p. absurd (h p))
   where
     clash : false ≡ true → ⊥
     clash t = cc
+
+-- a monomial that takes one matrix to another keeps which entries are zero
+pub phase_alike : (d : ℕ) (x y : Entries) → HasPhase d x y → AreAlikeMatrices x y
+phase_alike d x y phase j column i row = multiple_alike d phase.0 (entry_at x i j) (entry_at y i j) phase.1 (phase.2 j column i row)
+
+-- so there is none where they differ in that
+pub unlike : (d : ℕ) (x y : Entries) (alike : Bool) → alike ≡ false → (IsTrue alike ↔ AreAlikeMatrices x y) → (IsTrue false ↔ HasPhase d x y)
+unlike d x y alike fails told = answer_no (λ phase. clash alike fails (told.1 (phase_alike d x y phase)))
+  where
+    clash : (b : Bool) → b ≡ false → b ≡ true → ⊥
+    clash b h t = cc
+
+-- two zero matrices are equal up to any phase
+pub zero_phase : (d : ℕ) (x y : Entries) → AreAlikeMatrices x y → IsZeroMatrix x → HasPhase d x y
+unfolding AreAlike
+zero_phase d x y alike none = (
+  zero_exponent,
+  omega arith,
+  λ j column i row. zero_multiple d zero_exponent (entry_at x i j) (entry_at y i j) (none j column i row) ((alike j column i row).0 (none j column i row)),
+)
+
+-- a phase takes the lead to an exponent that the other entry counts
+pub lead_counted : (d : ℕ) (x y : Entries) (found : ℕ × ℕ × Monomial) (other : Terms) → IsPivot x found → IsTimesRoots d (entry_at y found.1 found.0) other → (u : Monomial) → IsMonomial u → IsMultipleMatrix d u x y → count other (minus found.2 u) ≢ pos 0
+lead_counted d x y found other pivot times u proper is none =
+    pivot.1.1.counted (is found.0 pivot.0 found.1 pivot.1.0 found.2 pivot.1.1.proper ∙ sym (times (minus found.2 u) (omega arith)) ∙ none)

@@ -11,20 +11,13 @@ use Rattle.qz_circ.specs.Paths.{count, total, paths, ways_through, entry, identi
 use Rattle.qz_circ.specs.Equivalence.{scaled_ways, Equivalent}
 use Rattle.qz_circ.specs.Classes.{IsRepresentative, IsKept}
 use Rattle.qz_circ.specs.Order.{gate_cmp, circuit_cmp}
-use Rattle.qz_equiv.proofs.Exponents.{exponent_eq, minus-zero, Decides-same_exponent}
+use Rattle.qz_circ.proofs.Exponents.{exponent_eq, minus-zero, Decides-same_exponent}
 use Rattle.qz_circ.specs.declared.circuit.Inst.TheVariants.{H as ProgramH}
 use Rattle.qz_circ.specs.ProgramCircuits.{ProgramCircuit, program_entry, program_paths, scaled_program_ways, EquivalentProgramCircuits}
-use Rattle.qz_equiv.specs.Entries.{one_way}
-use Rattle.qz_equiv.proofs.Totals.{count-append, count-times_one, count-root2_twice}
-
--- what holds between 0 and 1 holds between each two states of one qubit
-each_state : (P : ℕ → ℕ → Type 0) → P 0 0 → P 0 1 → P 1 0 → P 1 1 → (i j : ℕ) → i < 2 → j < 2 → P i j
-each_state P a b c d zero zero hi hj = a
-each_state P a b c d zero (suc zero) hi hj = b
-each_state P a b c d (suc zero) zero hi hj = c
-each_state P a b c d (suc zero) (suc zero) hi hj = d
-each_state P a b c d (suc (suc i)) j hi hj = absurd (omega arith)
-each_state P a b c d i (suc (suc j)) hi hj = absurd (omega arith)
+use Rattle.qz_circ.proofs.SignedWays.{one_way}
+use Rattle.qz_circ.proofs.Totals.{count-append, count-times_one, count-root2_twice}
+use Rattle.qz_paths.proofs.Equivalences.{symmetric}
+use Rattle.qz_paths.proofs.OneQubit.{same_ways, two_flips}
 
 -- a flip and then a turn by the parameter, and a turn by its negative and then a flip
 abbrev flip_first : Circuit
@@ -89,16 +82,6 @@ pub parameters_different : Equivalent 1 (Rz 0 (Plus 0) ∷ []) (Rz 0 (Plus 1) �
 unfolding count total
 parameters_different = rotations_different (Plus 0) (Plus 1) (omega arith) refl refl
 
--- circuits with the same ways between each two states of one qubit are equivalent
-same_ways : (a c : Circuit) → ((i j : ℕ) → i < 2 → j < 2 → scaled_ways 1 a c i j ≡ scaled_ways 1 c a i j) → Equivalent 1 a c
-same_ways a c same = (
-  zero_exponent,
-  record {
-    phase = omega arith;
-    counts = λ i j e hi hj he. ap (λ ps. count ps e) (same i j hi hj) ∙ ap (count (scaled_ways 1 c a i j)) (sym (minus-zero e he));
-  },
-)
-
 -- rotations by two parameters, and one by their sum
 abbrev parameters_in_turn : Circuit
 parameters_in_turn = Rz 0 (Plus 0) ∷ Rz 0 (Plus 1) ∷ []
@@ -106,18 +89,10 @@ parameters_in_turn = Rz 0 (Plus 0) ∷ Rz 0 (Plus 1) ∷ []
 abbrev sum_at_once : Circuit
 sum_at_once = Rz 0 (Sum 0 1) ∷ []
 
-sum_ways : (i j : ℕ) → i < 2 → j < 2 → scaled_ways 1 parameters_in_turn sum_at_once i j ≡ scaled_ways 1 sum_at_once parameters_in_turn i j
-unfolding scaled_ways root2 paths ways_along ways_through identity_ways entry
-sum_ways = each_state (λ i j. scaled_ways 1 parameters_in_turn sum_at_once i j ≡ scaled_ways 1 sum_at_once parameters_in_turn i j) refl refl refl refl
-
 -- by the phase 1
 pub sum_equivalent : Equivalent 1 (Rz 0 (Plus 0) ∷ Rz 0 (Plus 1) ∷ []) (Rz 0 (Sum 0 1) ∷ [])
-sum_equivalent = same_ways parameters_in_turn sum_at_once sum_ways
-
--- no gate, and two flips
-no_gate_ways : (i j : ℕ) → i < 2 → j < 2 → scaled_ways 1 [] (X 0 ∷ X 0 ∷ []) i j ≡ scaled_ways 1 (X 0 ∷ X 0 ∷ []) [] i j
 unfolding scaled_ways root2 paths ways_along ways_through identity_ways entry
-no_gate_ways = each_state (λ i j. scaled_ways 1 [] (X 0 ∷ X 0 ∷ []) i j ≡ scaled_ways 1 (X 0 ∷ X 0 ∷ []) [] i j) refl refl refl refl
+sum_equivalent = (zero_exponent, same_ways (scaled_ways 1 parameters_in_turn sum_at_once) (scaled_ways 1 sum_at_once parameters_in_turn) refl refl refl refl)
 
 abbrev three_gates : Limits
 three_gates = record { n = 3; q = 1; m = 0 }
@@ -125,7 +100,7 @@ three_gates = record { n = 3; q = 1; m = 0 }
 -- two flips are no representative
 flips_not_first : IsRepresentative three_gates (X 0 ∷ X 0 ∷ []) → ⊥
 unfolding circuit_cmp gate_cmp
-flips_not_first h = h.first [] (record { short = omega arith; gates = tt }) refl (same_ways [] (X 0 ∷ X 0 ∷ []) no_gate_ways)
+flips_not_first h = h.first [] (record { short = omega arith; gates = tt }) refl (symmetric 1 (X 0 ∷ X 0 ∷ []) [] two_flips)
 
 -- so three are not kept
 pub flips_not_kept : IsKept (record { n = 3; q = 1; m = 0 }) (X 0 ∷ X 0 ∷ X 0 ∷ []) → ⊥

@@ -1,49 +1,52 @@
-//! Whether one matrix is a monomial times another.
-ghost use Rattle.std.specs.Prelude.{◌≡◌, ◌≢◌, ◌↔◌, ◌+◌, ◌<◌, ◌≤◌, ◌⊎◌, pos, [], length, IsTrue, IfOk, MatchOption};
+//! Whether one matrix is a monomial and a power of √2 times another.
+ghost use Rattle.std.specs.Prelude.{◌≡◌, ◌≢◌, ◌↔◌, ◌+◌, ◌-◌, ◌^◌, ◌<◌, ◌≤◌, ◌⊎◌, pos, IsTrue, IfOk};
 ghost use Rattle.qz_ring.specs.Exponent.{Exponent as Monomial, IsExponent as IsMonomial, minus, with_turns, reach_of};
-ghost use Rattle.qz_ring.specs.Terms.{count, largest_reach};
-ghost use Rattle.qz_ring.specs.Counts.{IsTimesMonomial};
-ghost use Rattle.qz_equiv.specs.Entries.{row, column, PowersAtMost};
-ghost use Rattle.qz_equiv.specs.Phases.{IsColumnShift, IsMatrixShift, HasPhase, IsCountedExponent, IsZeroColumn, IsPivotOfColumn, IsZeroMatrix, IsPivot, MatrixPowersAtMost, SameShape};
+ghost use Rattle.qz_ring.specs.Terms.{count, weight_of, largest_reach};
+ghost use Rattle.qz_equiv.specs.Phases.{IsMultiple, IsMultipleColumn, IsMultipleMatrix, HasPhase, IsPivot};
 
-use crate::matrix::{Column, Matrix};
+use crate::roots::times_roots;
+use crate::zeros::{are_alike_matrices, pivot, rows_of};
+use qz_matrix::Matrix;
 use qz_ring::{Elem, Exponent, Memory};
 
-// Whether x is the monomial times y.
-fn same_entry(x: &Elem, y: &Elem, by: Exponent) -> Result<bool, Memory>
+// Whether x is y times the monomial, and times √2 as often as the number says.
+fn same_entry(x: &Elem, y: &Elem, roots: u64, by: Exponent) -> Result<bool, Memory>
+    requires few { roots ≤ 100 }
+    requires weight { weight_of y.now ≤ 2 ^ (100 - roots) }
     requires powers { largest_reach y.now ≤ 100 }
     requires reach { reach_of by ≤ 200 }
-    ensures { IfOk result (λ same. IsTrue same ↔ IsTimesMonomial by y.now x.now) }
+    ensures { IfOk result (λ same. IsTrue same ↔ IsMultiple roots by x.now y.now) }
 {
-    let mut shifted = y.copy()?;
-    shifted.shift(by);
-    Ok(x.same(&shifted))
+    let mut product = times_roots(y, roots)?;
+    product.shift(by);
+    Ok(x.same(&product))
 }
 
-// Whether each entry of x is the monomial times that of y.
-fn same_column(x: &Column, y: &Column, by: Exponent) -> Result<bool, Memory>
-    requires rows { length x.now ≡ length y.now }
-    requires powers { PowersAtMost 100 y.now }
+// Whether each entry in the column of x is that of y times the monomial, and times √2 as often as the number says.
+fn same_column(x: &Matrix, y: &Matrix, roots: u64, by: Exponent, j: u64) -> Result<bool, Memory>
+    requires qubits { y.now.q ≡ x.now.q }
+    requires few { roots + y.now.gates ≤ 100 }
     requires reach { reach_of by ≤ 200 }
-    ensures { IfOk result (λ same. IsTrue same ↔ IsColumnShift by x.now y.now) }
+    requires column { j < 2 ^ x.now.q }
+    ensures { IfOk result (λ same. IsTrue same ↔ IsMultipleColumn roots by x.now y.now j) }
 {
-    for i in 0..x.rows() {
-        if !same_entry(x.entry(i), y.entry(i), by)? {
+    for i in 0..rows_of(x) {
+        if !same_entry(x.entry(i, j), y.entry(i, j), roots, by)? {
             return Ok(false);
         }
     }
     Ok(true)
 }
 
-// Whether each column of x is the monomial times that of y.
-fn same_matrix(x: &Matrix, y: &Matrix, by: Exponent) -> Result<bool, Memory>
-    requires shape { SameShape x.now y.now }
-    requires powers { MatrixPowersAtMost 100 y.now }
+// Whether x is y times the monomial, and times √2 as often as the number says.
+fn same_matrix(x: &Matrix, y: &Matrix, roots: u64, by: Exponent) -> Result<bool, Memory>
+    requires qubits { y.now.q ≡ x.now.q }
+    requires few { roots + y.now.gates ≤ 100 }
     requires reach { reach_of by ≤ 200 }
-    ensures { IfOk result (λ same. IsTrue same ↔ IsMatrixShift by x.now y.now) }
+    ensures { IfOk result (λ same. IsTrue same ↔ IsMultipleMatrix roots by x.now y.now) }
 {
-    for j in 0..x.columns() {
-        if !same_column(x.column(j), y.column(j), by)? {
+    for j in 0..rows_of(x) {
+        if !same_column(x, y, roots, by, j)? {
             return Ok(false);
         }
     }
@@ -76,84 +79,79 @@ fn half_turn_more(e: Exponent) -> Exponent
     }
 }
 
-// Whether x is the monomial times y, or is so with half a circle more.
-fn same_either_way(x: &Matrix, y: &Matrix, by: Exponent) -> Result<bool, Memory>
-    requires shape { SameShape x.now y.now }
-    requires powers { MatrixPowersAtMost 100 y.now }
+// Whether x is y times the monomial and √2 as often as the number says, or is so with half a circle more.
+fn same_either_way(x: &Matrix, y: &Matrix, roots: u64, by: Exponent) -> Result<bool, Memory>
+    requires qubits { y.now.q ≡ x.now.q }
+    requires few { roots + y.now.gates ≤ 100 }
     requires reach { reach_of by ≤ 200 }
-    ensures { IfOk result (λ same. IsTrue same ↔ (IsMatrixShift by x.now y.now ⊎ IsMatrixShift (with_turns by 256) x.now y.now)) }
+    ensures { IfOk result (λ same. IsTrue same ↔ (IsMultipleMatrix roots by x.now y.now ⊎ IsMultipleMatrix roots (with_turns by 256) x.now y.now)) }
 {
-    if same_matrix(x, y, by)? {
+    if same_matrix(x, y, roots, by)? {
         return Ok(true);
     }
-    let same = same_matrix(x, y, half_turn_more(by))?;
+    let same = same_matrix(x, y, roots, half_turn_more(by))?;
     Ok(same)
 }
 
-// The first exponent of an entry that isn't zero.
-fn lead_of(entry: &Elem) -> Option<Exponent>
-    ensures { MatchOption result (entry.now ≡ []) (IsCountedExponent entry.now) }
-{
-    match entry.leading() {
-        Some(term) => Some(term.0),
-        None => None,
-    }
-}
-
-// The first row whose entry isn't zero, and its first exponent.
-fn lead_in_column(entries: &Column) -> Option<(usize, Exponent)>
-    ensures { MatchOption result (IsZeroColumn entries.now) (IsPivotOfColumn entries.now) }
-{
-    for i in 0..entries.rows() {
-        if let Some(lead) = lead_of(entries.entry(i)) {
-            return Some((i, lead));
-        }
-    }
-    None
-}
-
-// The first column with an entry that isn't zero, the first row of it, and its first exponent.
-fn pivot(matrix: &Matrix) -> Option<(usize, usize, Exponent)>
-    ensures { MatchOption result (IsZeroMatrix matrix.now) (IsPivot matrix.now) }
-{
-    for j in 0..matrix.columns() {
-        if let Some((i, lead)) = lead_in_column(matrix.column(j)) {
-            return Some((j, i, lead));
-        }
-    }
-    None
-}
-
-// Whether x is y times a monomial that takes one of the other entry's exponents to the lead, up to a sign.
-fn has_candidate(x: &Matrix, y: &Matrix, lead: Exponent, other: &Elem) -> Result<bool, Memory>
-    requires shape { SameShape x.now y.now }
-    requires powers { MatrixPowersAtMost 100 y.now }
+// Whether x is y times √2 as often as the number says, and times a monomial that takes one of the other entry's
+// exponents to the lead, up to a sign.
+fn has_candidate(
+    x: &Matrix,
+    y: &Matrix,
+    roots: u64,
+    lead: Exponent,
+    other: &Elem,
+) -> Result<bool, Memory>
+    requires qubits { y.now.q ≡ x.now.q }
+    requires few { roots + y.now.gates ≤ 100 }
     requires lead_proper { IsMonomial lead }
     requires lead_powers { reach_of lead ≤ 100 }
     requires other_powers { largest_reach other.now ≤ 100 }
-    requires counted { (u : Monomial) → IsMonomial u → IsMatrixShift u x.now y.now → count other.now (minus lead u) ≢ pos 0 }
-    ensures { IfOk result (λ found. IsTrue found ↔ HasPhase x.now y.now) }
+    requires counted { (u : Monomial) → IsMonomial u → IsMultipleMatrix roots u x.now y.now → count other.now (minus lead u) ≢ pos 0 }
+    ensures { IfOk result (λ found. IsTrue found ↔ HasPhase roots x.now y.now) }
 {
     for k in 0..other.terms() {
         let term = other.term(k);
-        if same_either_way(x, y, quotient_of(lead, term.0))? {
+        if same_either_way(x, y, roots, quotient_of(lead, term.0))? {
             return Ok(true);
         }
     }
     Ok(false)
 }
 
-/// Whether some monomial takes the second matrix to the first.
-pub(crate) fn same_up_to_phase(x: &Matrix, y: &Matrix) -> Result<bool, Memory>
-    requires shape { SameShape x.now y.now }
-    requires first_powers { MatrixPowersAtMost 100 x.now }
-    requires second_powers { MatrixPowersAtMost 100 y.now }
-    ensures { IfOk result (λ same. IsTrue same ↔ HasPhase x.now y.now) }
+// Whether x is y times √2 as often as the number says, and times some monomial. The pivot is an exponent that x counts.
+fn has_phase_at(
+    x: &Matrix,
+    y: &Matrix,
+    roots: u64,
+    pivot: (u64, u64, Exponent),
+) -> Result<bool, Memory>
+    requires qubits { y.now.q ≡ x.now.q }
+    requires few { roots + y.now.gates ≤ 100 }
+    requires few_gates { x.now.gates ≤ 100 }
+    requires pivot { IsPivot x.now pivot }
+    ensures { IfOk result (λ same. IsTrue same ↔ HasPhase roots x.now y.now) }
 {
+    let (j, i, lead) = pivot;
+    let other = times_roots(y.entry(i, j), roots)?;
+    let same = has_candidate(x, y, roots, lead, &other)?;
+    Ok(same)
+}
+
+// Whether some monomial takes y, times √2 for each H that it has fewer, to x.
+pub(crate) fn same_up_to_phase(x: &Matrix, y: &Matrix) -> Result<bool, Memory>
+    requires qubits { y.now.q ≡ x.now.q }
+    requires few { x.now.gates + y.now.gates ≤ 100 }
+    requires halves { y.now.halves ≤ x.now.halves }
+    ensures { IfOk result (λ same. IsTrue same ↔ HasPhase (x.now.halves - y.now.halves) x.now y.now) }
+{
+    if !are_alike_matrices(x, y) {
+        return Ok(false);
+    }
     match pivot(x) {
-        None => Ok(pivot(y).is_none()),
-        Some((j, i, lead)) => {
-            let same = has_candidate(x, y, lead, y.column(j).entry(i))?;
+        None => Ok(true),
+        Some(found) => {
+            let same = has_phase_at(x, y, x.halves() - y.halves(), found)?;
             Ok(same)
         }
     }

@@ -1,7 +1,7 @@
 use Rattle.std.proofs.Common.{ℕ, ◌<◌}
-use Rattle.qz_equiv.specs.Entries.{row}
-use Rattle.qz_ring.specs.Counts.{IsTimesMonomial}
+use Rattle.qz_matrix.specs.Entries.{entry_at}
+use Rattle.qz_equiv.specs.Phases.{IsMultiple}
 use Rattle.qz_equiv.proofs.phase.same_column.Given as goal
 
 abbrev pub invariant-loop-i : goal.invariant-loop-i
-invariant-loop-i l = (k : ℕ) → k < l.i → IsTimesMonomial l.by (row l.y k) (row l.x k)
+invariant-loop-i l = (k : ℕ) → k < l.i → IsMultiple l.roots l.by (entry_at l.x k l.j) (entry_at l.y k l.j)

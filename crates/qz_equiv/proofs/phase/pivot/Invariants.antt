@@ -1,7 +1,0 @@
-use Rattle.std.proofs.Common.{ℕ, ◌<◌}
-use Rattle.qz_equiv.specs.Entries.{column}
-use Rattle.qz_equiv.specs.Phases.{IsZeroColumn}
-use Rattle.qz_equiv.proofs.phase.pivot.Given as goal
-
-abbrev pub invariant-loop-j : goal.invariant-loop-j
-invariant-loop-j l = (k : ℕ) → k < l.j → IsZeroColumn (column l.matrix k)
