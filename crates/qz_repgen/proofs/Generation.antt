@@ -8,6 +8,7 @@ use Rattle.qz_circ.specs.ClassLists.{AreRanks}
 use Rattle.qz_circ.specs.Equivalence.{Equivalent}
 use Rattle.qz_circ.specs.Order.{is_before, all_circuits, rank, circuit_at}
 use Rattle.qz_circ.specs.Classes.{IsRepresentative, IsKept, IsRepresentativeRank, IsMemberRank, ListsExactly, IsClassList}
+use Rattle.qz_paths.proofs.Least.{representative_kept}
 use Rattle.qz_repgen.specs.declared.progress.Class.{Class}
 use Rattle.qz_repgen.specs.Progress.{ListsBelow, Covers, representatives_of}
 use Rattle.qz_repgen.proofs.Listing.{lists_exactly}
@@ -27,7 +28,7 @@ module _ (b : Limits) (ranks : RanksAreOrder b) where
   representative_below r h = subst (λ x. x < length (all_circuits b)) h.ranked (ranks.below h.circuit h.representative.within)
 
   -- the circuit at the rank of a circuit is this circuit
-  circuit_is : (r : ℕ) (c : Circuit) → Within b c → rank b c ≡ r → circuit_at b r ≡ c
+  pub circuit_is : (r : ℕ) (c : Circuit) → Within b c → rank b c ≡ r → circuit_at b r ≡ c
   circuit_is r c within ranked = ap (circuit_at b) (sym ranked) ∙ ranks.at_rank c within
 
   -- the circuit at the rank of a representative is one
@@ -38,14 +39,13 @@ module _ (b : Limits) (ranks : RanksAreOrder b) where
   pub representative_from : (r : ℕ) → r < length (all_circuits b) → IsRepresentative b (circuit_at b r) → IsRepresentativeRank b r
   representative_from r below h = record { circuit = circuit_at b r; representative = h; ranked = ranks.rank_at r below }
 
-  -- a rank is a representative's where no circuit with a lower rank is equivalent
-  pub is_representative : (r : ℕ) → r < length (all_circuits b) → ((s : ℕ) → s < r → Equivalent b.q (circuit_at b s) (circuit_at b r) → ⊥) → IsRepresentativeRank b r
-  is_representative r below none = representative_from r below (record {
-    within = ranks.within_at r below;
-    first = λ d within before same.
-        let lower : rank b d < r = subst (λ x. rank b d < x) (ranks.rank_at r below) (ranks.rises d (circuit_at b r) within (ranks.within_at r below) before) in
-        none (rank b d) lower (subst (λ x. Equivalent b.q x (circuit_at b r)) (sym (ranks.at_rank d within)) same);
-  })
+  -- a part whose rank is a representative's is one
+  pub known_representative : (part : Circuit) → Within b part → IsRepresentativeRank b (rank b part) → IsRepresentative b part
+  known_representative part within h = subst (IsRepresentative b) (ranks.at_rank part within) (representative_at (rank b part) h)
+
+  -- the circuit at the rank of a representative is kept
+  pub representative_kept_at : (r : ℕ) → IsRepresentativeRank b r → IsKept b (circuit_at b r)
+  representative_kept_at r h = representative_kept b (circuit_at b r) (representative_at r h)
 
   -- an equivalent circuit with a lower rank makes it none
   pub is_no_representative : (s r : ℕ) → s < r → r < length (all_circuits b) → Equivalent b.q (circuit_at b s) (circuit_at b r) → IsRepresentativeRank b r → ⊥

@@ -1,7 +1,9 @@
 pub mod Listing
 pub mod Generation
-pub mod Turn
-pub mod Kept
 pub mod LowerLaws
-pub mod Flags
-pub mod TurnTaken
+pub mod Turn
+pub mod RisingRuns
+pub mod RankRows
+pub mod CandidateRows
+pub mod RoundSteps
+pub mod FirstRanks

@@ -1,13 +1,12 @@
 -- What the crate of circuits shows of ranks, as a generation uses it.
-use Rattle.std.proofs.Common.{ℕ, ◌-◌, ◌≤◌, [], ◌∷◌, length, arith}
-use Rattle.qz_circ.specs.declared.circuit.Expr.TheVariants.{Const, Plus, Minus, Sum}
-use Rattle.qz_circ.specs.declared.circuit.Op.{Op}
-use Rattle.qz_circ.specs.declared.circuit.Op.TheVariants.{H, X, Cx, Rz}
-use Rattle.qz_circ.specs.Circuit.{Circuit, Limits, Within, IsOn, HasBelow}
+use Rattle.std.proofs.Common.{◌≡◌, ℕ, ◌-◌, length, sym, subst}
+use Rattle.qz_circ.specs.Circuit.{Circuit, Limits, Within, IsOn}
 use Rattle.qz_circ.specs.Classes.{without_first, without_last}
 use Rattle.qz_circ.specs.Bounds.{IsLawful}
+use Rattle.qz_circ.proofs.BoundsLemmas.{in_range}
 use Rattle.qz_circ.proofs.CircuitPlaces.{circuit_at-within, within-drop, within-take}
 use Rattle.qz_circ.proofs.GateNumbers.{circuit_below}
+use Rattle.qz_circ.proofs.MoreParameters.{on_with_more}
 use Rattle.qz_circ.proofs.RankLemmas.{circuit_at-rank, rank_listed, rank-circuit_at, before_by_rank}
 use Rattle.qz_repgen.proofs.Generation.{RanksAreOrder}
 
@@ -22,24 +21,11 @@ ranks_are_order b h = record {
   rises_only = λ c d wc wd lower. (before_by_rank b h c d wc wd).1 lower;
 }
 
--- a circuit within limits is on their qubits and has their parameters
-pub is_on_from_within : (b : Limits) → IsLawful b → (c : Circuit) → Within b c → IsOn b.q b.m c
-is_on_from_within b h c w = circuit_below b c w.gates
-
--- a gate that has only parameters below k has only parameters below more
-has_with_more : (k more : ℕ) (g : Op) → k ≤ more → HasBelow k g → HasBelow more g
-has_with_more k more (H t) h has = tt
-has_with_more k more (X t) h has = tt
-has_with_more k more (Cx c t) h has = tt
-has_with_more k more (Rz t (Const a)) h has = tt
-has_with_more k more (Rz t (Plus i)) h has = omega arith
-has_with_more k more (Rz t (Minus i)) h has = omega arith
-has_with_more k more (Rz t (Sum i j)) h has = (omega (arith, has.0), omega (arith, has.1), has.2)
-
--- and so for a circuit
-pub on_with_more : (q k more : ℕ) (c : Circuit) → k ≤ more → IsOn q k c → IsOn q more c
-on_with_more q k more [] h on = tt
-on_with_more q k more (g ∷ c) h on = ((on.0.0, has_with_more k more g h on.0.1), on_with_more q k more c h on.1)
+-- a circuit within limits is on their qubits and has at most three parameters
+pub on_qubits : (b : Limits) → IsLawful b → (q : ℕ) → q ≡ b.q → (c : Circuit) → Within b c → IsOn q 3 c
+on_qubits b h q same c w =
+    let params = (in_range b h).params in
+    subst (λ x. IsOn x 3 c) (sym same) (on_with_more b.q b.m 3 c params (circuit_below b c w.gates))
 
 -- without its first gate it is within them
 pub first_within : (b : Limits) (c : Circuit) → Within b c → Within b (without_first c)

@@ -1,8 +1,6 @@
 -- How far a generation has come: what it keeps of the circuits with the ranks below a bound.
-use Rattle.std.specs.Prelude.{◌≡◌, ℕ, ◌<◌, Bool, true, false, List, [], ◌∷◌, ◌++◌, map, filter, length, nat_lt, Contains, if◌then◌else◌, slice_index_or, Vec}
+use Rattle.std.specs.Prelude.{◌≡◌, ℕ, ◌<◌, ◌==◌, Option, Some, None, List, [], ◌∷◌, ◌++◌, map, filter, length, nat_lt, Contains, All, slice_index_or, slice_set}
 use Rattle.std.specs.List.{AllPairs, AllByRecursion}
-use Rattle.std.specs.declared.alloc.Global.{Global}
-use Rattle.qz_circ.specs.declared.circuit.Op.{Op}
 use Rattle.qz_circ.specs.Circuit.{Circuit, Limits}
 use Rattle.qz_circ.specs.Equivalence.{Equivalent}
 use Rattle.qz_circ.specs.Order.{circuit_at}
@@ -19,37 +17,47 @@ pub record ListsBelow (bound : ℕ) (P : ℕ → Type 0) (numbers : List ℕ) : 
 abbrev pub representatives_of : List Class → List ℕ
 representatives_of classes = map (λ c. c.representative) classes
 
--- there is a class for each representative with a rank below the bound, and it has the members with a rank below it
+-- those of the representatives of k gates
+abbrev pub representatives_of_length : ℕ → List Class → List ℕ
+representatives_of_length k classes = map (λ c. c.representative) (filter (λ c. length c.circuit.items == k) classes)
+
+-- there is a class for each representative with a rank below the bound, with its circuit and the members with a rank below
+-- the bound
 pub record Covers (b : Limits) (bound : ℕ) (classes : List Class) : Type 0 where
   pub representatives : ListsBelow bound (IsRepresentativeRank b) (representatives_of classes)
+  pub circuits : AllByRecursion (λ c. c.circuit.items ≡ circuit_at b c.representative) classes
   pub members : AllByRecursion (λ c. ListsBelow bound (IsMemberRank b c.representative) c.members.items) classes
 
--- new is old, with r as one more member where the flag is set
-pub record AddsMember (flag : Bool) (r : ℕ) (old new : Class) : Type 0 where
-  pub representative : new.representative ≡ old.representative
-  pub members : new.members.items ≡ (if flag then old.members.items ++ r ∷ [] else old.members.items)
+-- the number is that of a class whose representative is equivalent to the circuit; with no number there is no such class
+abbrev pub IsClassOf : Limits → List Class → Circuit → Option ℕ → Type 0
+IsClassOf b classes c (Some k) = (k < length classes) × ((d : Class) → Equivalent b.q c (slice_index_or classes k d).circuit.items)
+IsClassOf b classes c None = All (λ class. Equivalent b.q c class.circuit.items → ⊥) classes
 
--- the same, with the flag of the class's representative
-abbrev pub AddsMemberWhere : List Bool → ℕ → Class → Class → Type 0
-AddsMemberWhere flags r old new = AddsMember (slice_index_or flags old.representative false) r old new
+-- new is old with r as one more member
+pub record AddsMember (r : ℕ) (old new : Class) : Type 0 where
+  pub representative : new.representative ≡ old.representative
+  pub circuit : new.circuit.items ≡ old.circuit.items
+  pub members : new.members.items ≡ old.members.items ++ r ∷ []
+
+-- new is old with r as one more member of the class with number k
+pub record Joins (k r : ℕ) (old new : List Class) : Type 0 where
+  pub class : Class
+  pub adds : (d : Class) → AddsMember r (slice_index_or old k d) class
+  pub rest : new ≡ slice_set old k class
+
+-- new is old with a class of the circuit with rank r at its end
+pub record Opens (r : ℕ) (c : Circuit) (old new : List Class) : Type 0 where
+  pub class : Class
+  pub representative : class.representative ≡ r
+  pub circuit : class.circuit.items ≡ c
+  pub members : class.members.items ≡ r ∷ []
+  pub last : new ≡ old ++ class ∷ []
+
+-- new is old with the circuit with rank r in the class with this number, or in one of its own where there is no number
+abbrev pub Places : ℕ → Circuit → List Class → List Class → Option ℕ → Type 0
+Places r c old new (Some k) = Joins k r old new
+Places r c old new None = Opens r c old new
 
 -- the members of each class that has several
 abbrev pub several_of : List Class → List (List ℕ)
 several_of classes = filter (λ list. nat_lt 1 (length list)) (map (λ c. c.members.items) classes)
-
--- a flag for each rank below k, set where the circuit is equivalent to that rank's circuit
-pub record AreFlags (b : Limits) (c : Circuit) (k : ℕ) (flags : List Bool) : Type 0 where
-  pub one_each : length flags ≡ k
-  pub set : (s : ℕ) → s < k → slice_index_or flags s false ≡ true → Equivalent b.q c (circuit_at b s)
-  pub unset : (s : ℕ) → s < k → slice_index_or flags s false ≡ false → Equivalent b.q c (circuit_at b s) → ⊥
-
--- new is old with a class of r at its end, which has r as a member where the flag is set
-pub record Opens (flag : Bool) (r : ℕ) (old new : List Class) : Type 0 where
-  pub class : Class
-  pub representative : class.representative ≡ r
-  pub members : class.members.items ≡ (if flag then r ∷ [] else [])
-  pub last : new ≡ old ++ class ∷ []
-
--- the gates of each circuit
-abbrev pub circuits_in : List (Vec Op Global) → List Circuit
-circuits_in circuits = map (λ c. c.items) circuits
