@@ -1,0 +1,3 @@
+mod ToldLemmas
+mod ReadingLemmas
+pub mod ShelfLemmas

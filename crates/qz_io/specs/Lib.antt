@@ -1,0 +1,15 @@
+pub mod Counts
+pub mod Told
+pub mod Files
+pub mod Transfers
+pub mod StdSink
+pub mod StdSource
+pub mod DirShelf
+pub mod Stops
+pub mod SureSource
+pub mod MemSource
+pub mod SureSink
+pub mod MemSink
+pub mod SureShelf
+pub mod MemShelf
+pub mod Places
