@@ -1,7 +1,8 @@
 //! Bounds, ranks and lists of classes.
 
 use qz_circ::{
-    Bounds, Classes, Expr, LimitFault, Memory, Op, length_of, op_number, op_of, rank, unrank,
+    Bounds, Classes, Expr, LimitFault, Memory, Op, drop_first_rank, drop_last_rank, length_of,
+    op_number, op_of, rank, unrank,
 };
 use std::alloc::Global;
 use std::process::Abort;
@@ -28,6 +29,15 @@ fn rank_of(circuit: &[Op], b: Bounds) -> Option<u64> {
 fn length_at(r: u64, b: Bounds) -> Option<u64> {
     if r < b.circuits() {
         Some(length_of(r, b))
+    } else {
+        None
+    }
+}
+
+// The ranks without the first and without the last gate.
+fn parts_at(r: u64, b: Bounds) -> Option<[u64; 2]> {
+    if 0 < r && r < b.circuits() {
+        Some([drop_first_rank(r, b), drop_last_rank(r, b)])
     } else {
         None
     }
@@ -65,6 +75,8 @@ fn ranks_two_gates_on_one_qubit(rt: HostRuntime) -> Result<(), Fail> {
     assert_eq!(rt; rank_of(&[Op::X(0), first], b), Some(21));
     assert_eq!(rt; rank_of(&[first, first, first], b), None);
     assert_eq!(rt; length_at(21, b), Some(2));
+    assert_eq!(rt; parts_at(21, b), Some([3, 2]));
+    assert_eq!(rt; parts_at(9, b), Some([0, 0]));
     assert!(rt; is_circuit_at(rt.alloc(), 90, b, &[last, last]));
     Ok(())
 }

@@ -1,9 +1,8 @@
 //! What the program answers for some lists of words.
 
-use crate::command::run_solo;
-use crate::memory_sink::MemSink;
-use crate::status::Status;
 use qz_circ::Which;
+use qz_io::{MemSink, SureShelf, SureSink, SureSource};
+use qz_top::{Status, run_solo};
 use std::alloc::{AllocError, Global};
 use std::process::Abort;
 use std::str;
@@ -122,7 +121,10 @@ fn words_of(alloc: Global, text: &str) -> Result<Vec<String>, AllocError> {
 
 // The next functions hide the clauses of what is tested: a test that knows less is proved sooner.
 fn answer(alloc: Global, words: &[String], out: &mut MemSink) -> Status {
-    run_solo(alloc, words, out)
+    let mut input = SureSource::new(Vec::new(alloc));
+    let mut shelf = SureShelf::new(Vec::new(alloc));
+    let mut err = SureSink::new(alloc);
+    run_solo(alloc, words, &mut input, &mut shelf, out, &mut err)
 }
 
 fn sink(alloc: Global) -> MemSink {
@@ -174,23 +176,40 @@ fn writes_rules(rt: HostRuntime) {
     assert_eq!(rt; number_of(Status::Ok), 0);
 }
 
-fn has_lines(text: &[u8], count: usize) -> bool {
-    str::from_utf8(text).is_ok_and(|text| text.lines().count() == count)
+// Whether the text is of so many lines, and has each of these parts.
+fn has_parts(text: &[u8], lines: usize, parts: &[&str]) -> bool {
+    match str::from_utf8(text) {
+        Ok(text) => {
+            text.lines().count() == lines && parts.iter().all(|part| text.contains(*part))
+        }
+        Err(_) => false,
+    }
 }
 
-fn has_head_of_two_qubits(text: &[u8]) -> bool {
-    text.starts_with(b"quartz-rules 1\nbounds 2 2 0\nclasses 130\nclass 21\n-\nh 0;h 0\n")
-}
-
-#[test]
-fn writes_130_classes_of_349_members_on_two_qubits(rt: HostRuntime) -> Result<(), Fail> {
-    let alloc = rt.alloc();
-    let words = words_of(alloc, "generate 2 2 0")?;
+// Whether the words give rules of so many lines, with each of these parts.
+fn has_rules(alloc: Global, words: &[String], lines: usize, parts: &[&str]) -> bool {
     let mut out = sink(alloc);
-    assert_eq!(rt; answer(alloc, &words, &mut out), Status::Ok);
-    assert!(rt; has_head_of_two_qubits(written(&out)));
-    assert!(rt; has_lines(written(&out), 3 + 130 + 349 + 1));
-    Ok(())
+    answer(alloc, words, &mut out) == Status::Ok && has_parts(written(&out), lines, parts)
+}
+
+// The words of this text give rules of so many lines, with each of these parts.
+fn writes_parts(rt: &impl Abort, alloc: Global, text: &str, lines: usize, parts: &[&str]) {
+    let done = words_of(alloc, text).is_ok_and(|words| has_rules(alloc, &words, lines, parts));
+    assert!(rt; done, "at {text}");
+}
+
+// 33 classes of 111 members with one parameter, 130 of 349 on two qubits.
+#[test]
+fn writes_rules_with_a_parameter_and_on_two_qubits(rt: HostRuntime) {
+    let alloc = rt.alloc();
+    let head = "quartz-rules 1\nbounds 2 1 1\nclasses 33\nclass 12\n-\nh 0;h 0\n";
+    let last_members = "\nrz(p0) 0;rz(-p0) 0\nrz(-p0) 0;rz(p0) 0\nclass ";
+    let flipped = "\nclass 2\nx 0;rz(p0) 0\nrz(-p0) 0;x 0\n";
+    let lines = 3 + 33 + 111 + 1;
+    let parts = [head, last_members, flipped];
+    writes_parts(&rt, alloc, "generate 2 1 1", lines, &parts);
+    let head = "quartz-rules 1\nbounds 2 2 0\nclasses 130\nclass 21\n-\nh 0;h 0\n";
+    writes_parts(&rt, alloc, "generate 2 2 0", 3 + 130 + 349 + 1, &[head]);
 }
 
 fn ends_with(text: &[u8], end: &str) -> bool {
@@ -264,13 +283,4 @@ fn refuses_numbers_past_a_limit(rt: HostRuntime) {
     for status in [qubits, gates, params, circuits] {
         assert_eq!(rt; number_of(status), 3);
     }
-}
-
-#[test]
-fn refuses_what_is_not_built(rt: HostRuntime) {
-    let alloc = rt.alloc();
-    refuses(&rt, alloc, "generate 0 3 0", Status::Unbuilt);
-    refuses(&rt, alloc, "generate 3 1 0", Status::Unbuilt);
-    refuses(&rt, alloc, "generate 2 1 1", Status::Unbuilt);
-    assert_eq!(rt; number_of(Status::Unbuilt), 11);
 }

@@ -1,41 +1,68 @@
-//! Class lists of bounds with parameters.
+//! Candidates and class lists.
 
-use qz_circ::{Bounds, Classes};
-use qz_repgen::generate_one;
+use qz_circ::{Bounds, Classes, Memory};
+use qz_repgen::laws::first_ranks_are_of_one_length;
+use qz_repgen::{candidates, generate_one};
 use std::alloc::Global;
+use std::process::Abort;
 use std::test::Fail;
 
-// How many members all classes have.
-fn member_count(classes: &Classes) -> usize {
-    let mut count: usize = 0;
+// The candidates of no circuit.
+fn from_none(alloc: Global, b: Bounds) -> Result<Vec<u64>, Memory> {
+    first_ranks_are_of_one_length();
+    candidates(alloc, &[], b)
+}
+
+// The candidates of the empty circuit, where a longer one is within the bounds.
+fn from_empty(alloc: Global, b: Bounds) -> Result<Vec<u64>, Memory> {
+    first_ranks_are_of_one_length();
+    if b.n() == 0 {
+        return Ok(Vec::new(alloc));
+    }
+    candidates(alloc, &[0], b)
+}
+
+fn classes_of(alloc: Global, b: Bounds) -> Result<Classes, Memory> {
+    generate_one(alloc, b)
+}
+
+// How many classes there are, and how many members they have together.
+fn sizes(classes: &Classes) -> [usize; 2] {
+    let mut members = 0usize;
     for i in 0..classes.len() {
-        count = count.saturating_add(classes.class(i).len());
+        members = members.saturating_add(classes.class(i).len());
     }
-    count
+    [classes.len() as usize, members]
 }
 
-// Whether the first class has so many members.
-fn begins_with(classes: &Classes, count: usize) -> bool {
-    classes.len() > 0 && classes.class(0).len() == count
+// On one qubit with no parameter there are nine gates.
+#[test]
+fn candidates_of_no_gate_are_all_gates(rt: HostRuntime) -> Result<(), Fail> {
+    let b = Bounds::new(2, 1, 0)?;
+    let found = from_empty(rt.alloc(), b)?;
+    assert!(rt;
+        found.as_slice() == [1, 2, 3, 4, 5, 6, 7, 8, 9].as_slice(),
+        "one gate"
+    );
+    let none = from_none(rt.alloc(), b)?;
+    assert!(rt; none.is_empty(), "no circuit");
+    Ok(())
 }
 
-// The next function hides the clauses of what is tested: a test that knows less is proved sooner.
-fn class_list(alloc: Global, b: Bounds) -> Option<Classes> {
-    generate_one(alloc, b).ok()
-}
-
-// Whether there are so many classes and members in all, and so many members in the first class.
-fn has_sizes(alloc: Global, b: Bounds, classes: u64, members: usize, first: usize) -> bool {
-    match class_list(alloc, b) {
-        Some(list) => {
-            list.len() == classes && member_count(&list) == members && begins_with(&list, first)
-        }
-        None => false,
-    }
+// The numbers of classes, and of their members, as an outside program counted them by numeric matrices.
+#[test]
+fn class_lists_on_one_qubit_have_their_sizes(rt: HostRuntime) -> Result<(), Fail> {
+    let alloc = rt.alloc();
+    let two_gates = classes_of(alloc, Bounds::new(2, 1, 0)?)?;
+    assert!(rt; sizes(&two_gates) == [17, 77], "two gates");
+    let three_gates = classes_of(alloc, Bounds::new(3, 1, 0)?)?;
+    assert!(rt; sizes(&three_gates) == [31, 105], "three gates");
+    Ok(())
 }
 
 #[test]
-fn one_parameter_has_33_classes_of_111_members(rt: HostRuntime) -> Result<(), Fail> {
-    assert!(rt; has_sizes(rt.alloc(), Bounds::new(2, 1, 1)?, 33, 111, 12));
+fn the_class_list_on_two_qubits_has_its_size(rt: HostRuntime) -> Result<(), Fail> {
+    let classes = classes_of(rt.alloc(), Bounds::new(3, 2, 0)?)?;
+    assert!(rt; sizes(&classes) == [331, 773], "three gates");
     Ok(())
 }

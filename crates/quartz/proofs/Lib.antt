@@ -1,4 +1,0 @@
-pub mod SinkLemmas
-pub mod WordLemmas
-pub mod TextLemmas
-pub mod CommandLemmas

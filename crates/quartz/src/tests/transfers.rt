@@ -1,0 +1,231 @@
+//! What the loops read of whole inputs and write of whole texts, and where they stop.
+//!
+//! In a transcript each call has the bytes that it gave, or a mark where it gave none for a cause, and a comma.
+ghost use Rattle.std.specs.Prelude.{IsTrue};
+
+use qz_io::{
+    MemShelf, MemSink, MemSource, Named, Shelf, Sink, Source, SureShelf, SureSink, SureSource,
+    Unread, deliver, read_file, read_source,
+};
+use std::alloc::{AllocError, Global};
+use std::process::Abort;
+use std::test::Fail;
+
+// Adds what a reading answered.
+fn note(text: &mut Vec<u8>, answer: Result<Vec<u8>, Unread>) -> Result<(), AllocError> {
+    match answer {
+        Ok(bytes) => text.extend_from_slice(&bytes)?,
+        Err(Unread::TooLong) => text.extend_from_slice(b"+")?,
+        Err(Unread::Failed) => text.extend_from_slice(b"!")?,
+        Err(Unread::Memory) => text.extend_from_slice(b"?")?,
+    }
+    text.extend_from_slice(b",")
+}
+
+// The transcript of three readings of a source.
+fn reads<I: Source>(alloc: Global, input: &mut I, limit: u64) -> Result<Vec<u8>, AllocError> {
+    let mut text = Vec::new(alloc);
+    for _ in 0..3 {
+        note(&mut text, read_source(alloc, input, limit))?;
+    }
+    Ok(text)
+}
+
+// Adds what a reading of the open file answers.
+fn note_file<F: Shelf>(
+    alloc: Global,
+    text: &mut Vec<u8>,
+    shelf: &mut F,
+    limit: u64,
+) -> Result<(), AllocError>
+    requires { IsTrue (F.is_open shelf.old) }
+    ensures { IsTrue (F.is_open shelf.new) }
+{
+    let answer = read_file(alloc, shelf, limit);
+    note(text, answer)
+}
+
+// The transcript of three readings of a file, after its opening.
+fn visits<F: Shelf>(
+    alloc: Global,
+    shelf: &mut F,
+    name: &str,
+    limit: u64,
+) -> Result<Vec<u8>, AllocError> {
+    let mut text = Vec::new(alloc);
+    match shelf.open(name) {
+        Ok(true) => {
+            note_file(alloc, &mut text, shelf, limit)?;
+            note_file(alloc, &mut text, shelf, limit)?;
+            note_file(alloc, &mut text, shelf, limit)?;
+        }
+        Ok(false) => text.extend_from_slice(b"-")?,
+        Err(_) => text.extend_from_slice(b"!")?,
+    }
+    Ok(text)
+}
+
+// Which of three deliveries of a text are done, and which fail.
+fn deliveries<O: Sink>(alloc: Global, out: &mut O, piece: &str) -> Result<Vec<u8>, AllocError> {
+    let mut text = Vec::new(alloc);
+    for _ in 0..3 {
+        match deliver(piece.as_bytes(), out) {
+            Ok(()) => text.extend_from_slice(b".")?,
+            Err(_) => text.extend_from_slice(b"!")?,
+        }
+    }
+    Ok(text)
+}
+
+// Whether this is the transcript.
+fn says(text: &[u8], want: &str) -> bool {
+    text == want.as_bytes()
+}
+
+// How many calls of the transcript failed.
+fn failures(text: &[u8]) -> u64 {
+    text.iter().filter(|byte| **byte == b'!').count() as u64
+}
+
+// A source of four bytes with these stops is read so, and counts its faults.
+fn reads_so(
+    rt: &impl Abort,
+    alloc: Global,
+    stops: &[u64],
+    limit: u64,
+    want: &str,
+) -> Result<(), AllocError> {
+    let bytes = Vec::from_slice(alloc, b"abcd")?;
+    let mut input = MemSource::new(bytes, Vec::from_slice(alloc, stops)?);
+    let text = reads(alloc, &mut input, limit)?;
+    assert!(rt; says(&text, want), "at {stops:?}, within {limit}");
+    assert!(rt; input.faults() == failures(want.as_bytes()));
+    Ok(())
+}
+
+#[test]
+fn reads_sources_to_their_end_or_past_the_limit(rt: HostRuntime) -> Result<(), Fail> {
+    let alloc = rt.alloc();
+    reads_so(&rt, alloc, &[], 4, "abcd,,,")?;
+    reads_so(&rt, alloc, &[], 5, "abcd,,,")?;
+    reads_so(&rt, alloc, &[], u64::MAX, "abcd,,,")?;
+    reads_so(&rt, alloc, &[], 3, "+,,,")?;
+    reads_so(&rt, alloc, &[], 1, "+,+,,")?;
+    reads_so(&rt, alloc, &[], 0, "+,+,+,")?;
+    reads_so(&rt, alloc, &[0], 4, "!,abcd,,")?;
+    reads_so(&rt, alloc, &[2], 4, "!,cd,,")?;
+    reads_so(&rt, alloc, &[2, 2], 4, "!,!,cd,")?;
+    reads_so(&rt, alloc, &[4], 4, "!,,,")?;
+    reads_so(&rt, alloc, &[2], 1, "+,!,+,")?;
+    Ok(())
+}
+
+// A shelf with one file of four bytes.
+fn one_file(alloc: Global) -> Result<Vec<Named>, AllocError> {
+    let name = String::from_str(alloc, "a")?;
+    let file = Named::new(name, Vec::from_slice(alloc, b"abcd")?);
+    Ok(vec![in alloc; file]?)
+}
+
+// A shelf with these stops is read so, and counts its faults.
+fn visits_so(
+    rt: &impl Abort,
+    alloc: Global,
+    stops: &[u64],
+    limit: u64,
+    want: &str,
+) -> Result<(), AllocError> {
+    let mut shelf = MemShelf::new(one_file(alloc)?, Vec::from_slice(alloc, stops)?, false);
+    let text = visits(alloc, &mut shelf, "a", limit)?;
+    assert!(rt; says(&text, want), "at {stops:?}, within {limit}");
+    assert!(rt; shelf.faults() == failures(want.as_bytes()));
+    Ok(())
+}
+
+#[test]
+fn reads_files_to_their_end_or_past_the_limit(rt: HostRuntime) -> Result<(), Fail> {
+    let alloc = rt.alloc();
+    visits_so(&rt, alloc, &[], 4, "abcd,,,")?;
+    visits_so(&rt, alloc, &[], 3, "+,,,")?;
+    visits_so(&rt, alloc, &[2], 4, "!,cd,,")?;
+    visits_so(&rt, alloc, &[4], 4, "!,,,")?;
+    Ok(())
+}
+
+// A sink with these stops is delivered to so, keeps this, and counts its faults.
+fn delivers_so(
+    rt: &impl Abort,
+    alloc: Global,
+    stops: &[u64],
+    want: &str,
+    kept: &str,
+) -> Result<(), AllocError> {
+    let mut out = MemSink::new(alloc, Vec::from_slice(alloc, stops)?);
+    let text = deliveries(alloc, &mut out, "abc")?;
+    assert!(rt;
+        says(&text, want) && says(out.written(), kept),
+        "at {stops:?}"
+    );
+    assert!(rt; out.faults() == failures(want.as_bytes()));
+    Ok(())
+}
+
+#[test]
+fn delivers_up_to_a_fault(rt: HostRuntime) -> Result<(), Fail> {
+    let alloc = rt.alloc();
+    delivers_so(&rt, alloc, &[], "...", "abcabcabc")?;
+    delivers_so(&rt, alloc, &[0], "!..", "abcabc")?;
+    delivers_so(&rt, alloc, &[2], "!..", "ababcabc")?;
+    delivers_so(&rt, alloc, &[3, 5], ".!!", "abcab")?;
+    delivers_so(&rt, alloc, &[9], "...", "abcabcabc")?;
+    Ok(())
+}
+
+// More bytes than fit one piece.
+fn many_bytes(alloc: Global) -> Result<Vec<u8>, AllocError> {
+    let mut bytes = Vec::new(alloc);
+    for k in 0..200_000u32 {
+        bytes.push((k % 251) as u8)?;
+    }
+    Ok(bytes)
+}
+
+// Whether a source of these bytes gives all of them within the limit.
+fn gives_all(alloc: Global, bytes: &[u8], limit: u64) -> Result<bool, AllocError> {
+    let mut input = SureSource::new(Vec::from_slice(alloc, bytes)?);
+    Ok(match read_source(alloc, &mut input, limit) {
+        Ok(read) => read.as_slice() == bytes,
+        Err(_) => false,
+    })
+}
+
+// How many bytes are left of these after one byte past the limit was read.
+fn rest_past_limit(alloc: Global, bytes: &[u8], limit: u64) -> Result<usize, AllocError> {
+    let mut input = SureSource::new(Vec::from_slice(alloc, bytes)?);
+    Ok(match read_source(alloc, &mut input, limit) {
+        Err(Unread::TooLong) => input.left().len(),
+        _ => usize::MAX,
+    })
+}
+
+#[test]
+fn reads_more_than_one_piece(rt: HostRuntime) -> Result<(), Fail> {
+    let alloc = rt.alloc();
+    let bytes = many_bytes(alloc)?;
+    assert!(rt; gives_all(alloc, &bytes, 200_000)?);
+    assert!(rt; rest_past_limit(alloc, &bytes, 199_999)? == 0);
+    assert!(rt; rest_past_limit(alloc, &bytes, 65_535)? == 134_464);
+    Ok(())
+}
+
+#[test]
+fn sure_forms_are_read_and_written_whole(rt: HostRuntime) -> Result<(), Fail> {
+    let alloc = rt.alloc();
+    let mut shelf = SureShelf::new(one_file(alloc)?);
+    assert!(rt; says(&visits(alloc, &mut shelf, "a", 4)?, "abcd,,,"));
+    assert!(rt; says(&visits(alloc, &mut shelf, "b", 4)?, "-"));
+    let mut out = SureSink::new(alloc);
+    assert!(rt; says(&deliveries(alloc, &mut out, "abc")?, "..."));
+    assert!(rt; says(out.written(), "abcabcabc"));
+    Ok(())
+}

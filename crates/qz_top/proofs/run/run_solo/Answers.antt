@@ -1,0 +1,6 @@
+use Rattle.std.proofs.Common.{map, string_bytes}
+use Rattle.qz_top.proofs.AnswerLemmas.{words_carried}
+use Rattle.qz_top.proofs.run.run_solo.Goals as goal
+
+pub returns-in-Ok-clause-carried_out : goal.returns-in-Ok-clause-carried_out
+returns-in-Ok-clause-carried_out g c = words_carried (map string_bytes c.args.words.now) c.in-Ok.command _ _ c.in-Ok.ensures c.carry_out.ensures.carried_out

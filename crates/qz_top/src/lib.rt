@@ -1,0 +1,13 @@
+//! The commands of quartz: from a list of words to a status and what is written.
+#![tactic(auto)]
+
+pub mod generate;
+pub mod rule_text;
+pub mod run;
+pub mod status;
+pub mod words;
+mod writing;
+
+pub use run::run_solo;
+pub use status::Status;
+pub use words::{Command, WordFault, read_words};

@@ -1,0 +1,36 @@
+//! How a command ends.
+ghost use Rattle.std.specs.Prelude.{◌≡◌};
+
+use qz_circ::Which;
+
+/// How a command ends.
+#[derive(Clone, Copy, Debug, PartialEq, Eq)]
+pub enum Status {
+    /// It is done, and the whole text is written.
+    Ok,
+    /// Memory ran out.
+    Memory,
+    /// The words are in no written form.
+    Usage,
+    /// A number passes this limit.
+    Limit(Which),
+    /// Writing failed.
+    WriteFault,
+}
+
+impl Status {
+    ghost use Rattle.qz_top.specs.Status.{status_number};
+
+    /// The number that the program ends with.
+    pub fn number(self) -> u8
+        ensures { result ≡ status_number self }
+    {
+        match self {
+            Status::Ok => 0,
+            Status::Memory => 1,
+            Status::Usage => 2,
+            Status::Limit(_) => 3,
+            Status::WriteFault => 9,
+        }
+    }
+}

@@ -1,0 +1,100 @@
+//! The words of a command: what they ask for, and why they are refused.
+ghost use Rattle.std.specs.Prelude.{◌≡◌, map, string_bytes};
+ghost use Rattle.std.specs.Option.{option_map};
+ghost use Rattle.qz_circ.specs.Bounds.{refusal};
+ghost use Rattle.qz_top.specs.Words.{number_of, limits_of, which_of, asked, generation, command_of};
+
+use qz_circ::{Bounds, LimitFault, Which};
+
+/// What the words ask for.
+#[derive(Clone, Copy, Debug, PartialEq, Eq)]
+pub enum Command {
+    /// To generate the rules of these bounds.
+    Generate { bounds: Bounds },
+}
+
+/// Why words are no command that can be carried out.
+#[derive(Clone, Copy, Debug, PartialEq, Eq)]
+pub enum WordFault {
+    /// They are in no written form.
+    Usage,
+    /// They are in a written form, with a number past this limit.
+    Limit(Which),
+}
+
+// The value of one to eighteen digits.
+#[tactic(auto, using(std::proofs::lemmas::Bool::Decides::nat_tests), unfolding(crate::specs::Words::number_of))]
+fn number(word: &str) -> Option<u64>
+    ensures { result ≡ number_of word.now }
+{
+    let digits = word.as_bytes();
+    if digits.is_empty() {
+        return None;
+    }
+    if digits.len() > 18 {
+        return None;
+    }
+    let mut value: u64 = 0;
+    for digit in digits {
+        if !digit.is_ascii_digit() {
+            return None;
+        }
+        value = 10 * value + (*digit - b'0') as u64;
+    }
+    Some(value)
+}
+
+// The limit that a refused number passes.
+fn limit_of(fault: LimitFault) -> Which
+    ensures { result ≡ which_of fault }
+{
+    match fault {
+        LimitFault::Qubits => Which::BoundsQubits,
+        LimitFault::Gates => Which::BoundsGates,
+        LimitFault::Params => Which::BoundsParams,
+        LimitFault::Circuits => Which::BoundsCircuits,
+    }
+}
+
+// The numbers of these three words.
+fn three_numbers(n: &str, q: &str, m: &str) -> Option<(u64, u64, u64)>
+    ensures { limits_of (number_of n.now) (number_of q.now) (number_of m.now) ≡ option_map (λ t. record { n = t.0; q = t.1; m = t.2 }) result }
+{
+    Some((number(n)?, number(q)?, number(m)?))
+}
+
+// The three numbers of the one written form.
+#[tactic(auto, unfolding(crate::specs::Words::asked))]
+fn asked_numbers(words: &[String]) -> Option<(u64, u64, u64)>
+    ensures { asked (map string_bytes words.now) ≡ option_map (λ t. record { n = t.0; q = t.1; m = t.2 }) result }
+{
+    let [command, n, q, m] = words else {
+        return None;
+    };
+    if command.as_str() != "generate" {
+        return None;
+    }
+    three_numbers(n, q, m)
+}
+
+// The command to generate within these limits.
+#[tactic(auto, unfolding(qz_circ::specs::Bounds::refusal))]
+fn generation_within(n: u64, q: u64, m: u64) -> Result<Command, WordFault>
+    ensures { result ≡ generation (record { n = n; q = q; m = m }) (refusal (record { n = n; q = q; m = m })) }
+{
+    match Bounds::new(n, q, m) {
+        Ok(bounds) => Ok(Command::Generate { bounds }),
+        Err(fault) => Err(WordFault::Limit(limit_of(fault))),
+    }
+}
+
+/// What the words ask for. Takes no memory.
+#[tactic(auto, unfolding(crate::specs::Words::command_of))]
+pub fn read_words(words: &[String]) -> Result<Command, WordFault>
+    ensures { result ≡ command_of (map string_bytes words.now) }
+{
+    let Some((n, q, m)) = asked_numbers(words) else {
+        return Err(WordFault::Usage);
+    };
+    generation_within(n, q, m)
+}

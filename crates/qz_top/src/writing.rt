@@ -1,0 +1,27 @@
+//! How the text of a command is handed to the output.
+ghost use Rattle.std.specs.Prelude.{◌≡◌, ◌≢◌, ◌≤◌, IsTrue};
+ghost use Rattle.std.specs.Io.KnownBytes.{append_known};
+ghost use Rattle.qz_io.specs.Counts.{Rose};
+ghost use Rattle.qz_io.specs.Told.{HasPart};
+ghost use Rattle.qz_top.specs.Status.{IsRefusal};
+
+use crate::status::Status;
+use qz_io::{IoFault, Sink, deliver};
+
+// Writes the whole text.
+pub(crate) fn write_text<O: Sink>(text: &[u8], out: &mut O) -> Status
+    ensures not_refused { IsRefusal result → ⊥ }
+    ensures ok { result ≡ Status.Ok → O.written out.new ≡ append_known (O.written out.old) text.now }
+    ensures part { result ≢ Status.Ok → HasPart (O.written out.old) text.now (O.written out.new) }
+    ensures failed { result ≡ Status.WriteFault → Rose (O.faults out.old) (O.faults out.new) }
+    ensures memory { result ≡ Status.Memory → Rose (O.wants out.old) (O.wants out.new) }
+    ensures faults { O.faults out.old ≤ O.faults out.new }
+    ensures wants { O.wants out.old ≤ O.wants out.new }
+    ensures answered { IsTrue O.answers_faults → result ≢ Status.WriteFault → O.faults out.new ≡ O.faults out.old }
+{
+    match deliver(text, out) {
+        Ok(()) => Status::Ok,
+        Err(IoFault::Failed) => Status::WriteFault,
+        Err(IoFault::Memory) => Status::Memory,
+    }
+}
