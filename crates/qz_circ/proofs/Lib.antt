@@ -19,3 +19,5 @@ pub mod Through
 pub mod RuleGates
 pub mod PathCounts
 pub mod MoreParameters
+pub mod JoinedTexts
+pub mod ProgramNames

@@ -55,3 +55,34 @@ pub enum Which {
     /// A trial has at most 20,000 gates.
     TrialGates,
 }
+
+/// Why a text can't be cut into tokens: the leftmost fault. A place is that of a byte, counted from 0.
+#[derive(Clone, Copy, Debug, PartialEq, Eq)]
+pub enum LexFault {
+    /// No token begins here: the byte begins none, as an `=` that isn't `==`, or it is a quote without its end on the line.
+    BadByte { place: u64 },
+    /// The word that begins here has over 64 bytes.
+    LongName { place: u64 },
+    /// The whole number that begins here has over 18 digits.
+    BigNumber { place: u64 },
+    /// Memory ran out.
+    Memory,
+}
+
+/// Why tokens are no angle. A place is that of a byte of the text that the tokens were cut from.
+#[derive(Clone, Copy, Debug, PartialEq, Eq)]
+pub enum AngleFault {
+    /// The token here doesn't fit, or the tokens end here too early.
+    Form { place: u64 },
+    /// The parenthesis or the sign here is the thirty-third that is open or pending.
+    Deep { place: u64 },
+    /// The values of the operator here don't go together: a sum of a plain number and a multiple of pi, a product of two
+    /// multiples of pi, or a plain number divided by one. Or the angle that begins here is a plain number other than 0.
+    Kind { place: u64 },
+    /// The operator here divides by 0.
+    ZeroDivisor { place: u64 },
+    /// What the operator here gives has in lowest terms a numerator, without its sign, or a denominator over 10^18.
+    Range { place: u64 },
+    /// The angle that begins here is no whole multiple of pi/256.
+    NotMultiple { place: u64 },
+}

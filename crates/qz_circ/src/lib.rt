@@ -1,5 +1,6 @@
 //! Circuits over Nam's gates: their order and ranks, the bounds of a generation, lists of classes, and the
-//! definitions of what circuits mean and when two are equivalent.
+//! definitions of what circuits mean and when two are equivalent. Programs as values, and the definitions of their tokens,
+//! angles and texts.
 #![tactic(auto)]
 
 pub mod bound;
@@ -8,16 +9,21 @@ pub mod class_list;
 pub mod fault;
 pub mod laws;
 pub mod order;
+pub mod program;
 pub mod ranks;
 pub mod report;
 pub mod step_count;
+pub mod token;
+pub mod worked_programs;
 pub mod worked_values;
 
 pub use bound::Bounds;
 pub use circuit::{Expr, Inst, Op};
 pub use class_list::Classes;
-pub use fault::{LimitFault, Memory, Which};
+pub use fault::{AngleFault, LexFault, LimitFault, Memory, Which};
 pub use order::{prec, prec_insts};
+pub use program::{Arg, Args, Program, Register, Tail};
 pub use ranks::{drop_first_rank, drop_last_rank, length_of, op_number, op_of, rank, unrank};
 pub use report::Report;
 pub use step_count::Steps;
+pub use token::{Kind, Token};
