@@ -1,0 +1,5 @@
+pub mod LexLemmas
+pub mod ValueLemmas
+pub mod ChainLemmas
+pub mod LongestLemmas
+pub mod SpellingLemmas
