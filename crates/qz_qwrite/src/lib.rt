@@ -1,0 +1,10 @@
+//! The canonical text of programs.
+#![tactic(auto)]
+
+mod angle;
+mod lines;
+mod operand;
+mod qubit;
+pub mod writer;
+
+pub use writer::write;
