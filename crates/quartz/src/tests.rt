@@ -1,5 +1,6 @@
 //! Tests of the program and of the crates below it.
 
+mod angles;
 mod circuits;
 mod commands;
 mod equivalence;
@@ -7,6 +8,8 @@ mod generation;
 mod matrices;
 mod memory_forms;
 mod orders;
+mod programs;
 mod real_forms;
 mod sums;
+mod tokens;
 mod transfers;

@@ -3,7 +3,8 @@
 use qz_io::{
     DirShelf, IoFault, Shelf, Sink, Source, StdSink, StdSource, Unread, deliver, read_file,
 };
-use std::alloc::{AllocError, Global};
+use std::alloc::{AllocError, Allocator, Global};
+use std::fs::{Metadata, OpenFile, OpenOptions};
 use std::rt::Files;
 use std::test::Fail;
 use std::{env, fs, io, process};
@@ -35,6 +36,85 @@ impl io::Read for Halting {
         }
         self.has_failed = true;
         Err(io::ErrorKind::Interrupted.into())
+    }
+}
+
+// What a stand-in for files answers where no test asks.
+fn unsupported<T>() -> io::Result<T> {
+    Err(io::ErrorKind::Unsupported.into())
+}
+
+impl io::Seek for Halting {
+    fn seek(&mut self, _to: io::SeekFrom) -> io::Result<u64> {
+        unsupported()
+    }
+}
+
+impl OpenFile for Halting {
+    fn metadata(&self) -> io::Result<Metadata> {
+        unsupported()
+    }
+
+    fn set_len(&self, _size: u64) -> io::Result<()> {
+        unsupported()
+    }
+
+    fn sync_all(&self) -> io::Result<()> {
+        unsupported()
+    }
+
+    fn sync_data(&self) -> io::Result<()> {
+        unsupported()
+    }
+}
+
+// Files that are there under each name, and of which each fails once.
+#[derive(Drop)]
+struct HaltingFiles;
+
+impl Files for HaltingFiles {
+    type File = Halting;
+
+    type Dir = Halting;
+
+    fn open_file(&self, _how: &OpenOptions, _path: &str) -> io::Result<Halting> {
+        Ok(Halting { has_failed: false })
+    }
+
+    fn open_dir(&self, _path: &str) -> io::Result<Halting> {
+        unsupported()
+    }
+
+    fn metadata(&self, _path: &str) -> io::Result<Metadata> {
+        unsupported()
+    }
+
+    fn symlink_metadata(&self, _path: &str) -> io::Result<Metadata> {
+        unsupported()
+    }
+
+    fn copy(&self, _from: &str, _to: &str) -> io::Result<u64> {
+        unsupported()
+    }
+
+    fn rename(&self, _from: &str, _to: &str) -> io::Result<()> {
+        unsupported()
+    }
+
+    fn remove_file(&self, _path: &str) -> io::Result<()> {
+        unsupported()
+    }
+
+    fn create_dir(&self, _path: &str) -> io::Result<()> {
+        unsupported()
+    }
+
+    fn remove_dir(&self, _path: &str) -> io::Result<()> {
+        unsupported()
+    }
+
+    fn remove_dir_all<B: Allocator>(&self, _alloc: B, _path: &str) -> io::Result<()> {
+        unsupported()
     }
 }
 
@@ -112,6 +192,17 @@ fn fails_to_open_or_to_read<F: Shelf>(alloc: Global, shelf: &mut F, name: &str) 
     }
 }
 
+// Whether the first read of the file fails, and the second one is at its end.
+fn opens_and_fails_once<F: Shelf>(shelf: &mut F, name: &str) -> bool {
+    let mut piece = [0u8; 8];
+    match shelf.open(name) {
+        Ok(true) => {
+            shelf.read(&mut piece) == Err(IoFault::Failed) && shelf.read(&mut piece) == Ok(0)
+        }
+        _ => false,
+    }
+}
+
 fn path_below(alloc: Global, folder: &str, name: &str) -> Result<String, AllocError> {
     format!(in alloc; "{folder}/{name}")
 }
@@ -176,4 +267,13 @@ fn counts_each_fault_of_a_stream_once(rt: HostRuntime) {
     assert!(rt; fails_to_read(&mut input));
     assert!(rt; is_at_end(&mut input));
     assert!(rt; source_has_failed(&input, 1));
+}
+
+#[test]
+fn counts_each_fault_of_a_file_once(rt: HostRuntime) {
+    let mut shelf = DirShelf::new(HaltingFiles);
+    assert!(rt; opens_and_fails_once(&mut shelf, "file"));
+    assert!(rt; shelf_has_failed(&shelf, 1));
+    assert!(rt; opens_and_fails_once(&mut shelf, "file"));
+    assert!(rt; shelf_has_failed(&shelf, 2));
 }

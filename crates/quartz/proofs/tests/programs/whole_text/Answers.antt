@@ -1,0 +1,7 @@
+use Rattle.quartz.proofs.SamplePrograms.{whole_is_valid}
+use Rattle.quartz.proofs.tests.programs.whole_text.Goals as goal
+
+pub write-requires : goal.write-requires
+write-requires c =
+    rw (c.in_ok-add_barrier.ensures.ok, c.in_ok-add_measure.ensures.ok, c.in_ok-add_creg.ensures.ok, c.in_ok-add_qreg.ensures.ok, c.empty-p.ensures)
+    whole_is_valid
