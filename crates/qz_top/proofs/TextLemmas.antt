@@ -1,32 +1,18 @@
 -- The text of a rule file, piece by piece.
-use Rattle.std.proofs.Common.{◌≡◌, ℕ, ◌+◌, ◌<◌, ◌≤◌, suc, ◌-◌, List, [], ◌∷◌, ◌++◌, length, take, drop, get_or, codes, slice_get, Some, sym, ap, ◌∙◌, append_assoc, arith, add-one}
+use Rattle.std.proofs.Common.{◌≡◌, ℕ, ◌+◌, ◌<◌, ◌≤◌, List, [], ◌∷◌, ◌++◌, map, length, take, codes, slice_get, Some, refl, ap, ◌∙◌, append_assoc, arith, add-one}
 use Rattle.std.specs.Fmt.{decimal}
-use Rattle.std.specs.List.{flat_map}
-use Rattle.std.proofs.lemmas.List.{append-nil, take_all, flat_map_more}
+use Rattle.std.specs.List.{flat_map, join_with_byte}
+use Rattle.std.proofs.lemmas.List.{flat_map_more}
 use Rattle.std.proofs.lemmas.Option.{slice_get_within, get_or_from_slice_get}
 use Rattle.std.proofs.Math.Seq.{take-suc}
-use Rattle.qz_circ.specs.declared.circuit.Op.{Op}
 use Rattle.qz_circ.specs.Circuit.{Circuit, Limits}
 use Rattle.qz_top.specs.RuleText.{line, gate_text, circuit_text, head_text}
 
--- the first gate, and each further one behind a semicolon
-pub joined_gates : (g : Op) (rest : Circuit) → circuit_text (g ∷ rest) ≡ gate_text g ++ flat_map (λ h. 59 ∷ gate_text h) rest
+-- where there is a gate, the gates are joined by semicolons
+pub gates_joined : (c : Circuit) → 1 ≤ length c → circuit_text c ≡ join_with_byte 59 (map gate_text c)
 unfolding circuit_text
-joined_gates g [] = sym (append-nil (gate_text g))
-joined_gates g (h ∷ rest) = ap (λ text. gate_text g ++ (59 ∷ text)) (joined_gates h rest)
-
--- the first gate, and the others by the places that a loop takes
-pub gates_by_place : (c : Circuit) (d : Op) (i : ℕ) → 1 ≤ length c → length (take (length c - 1) (drop 1 c)) ≤ i → circuit_text c ≡ gate_text (get_or c 0 d) ++ flat_map (λ h. 59 ∷ gate_text h) (take i (take (length c - 1) (drop 1 c)))
-gates_by_place [] d i some all = absurd (omega arith)
-gates_by_place (g ∷ rest) d i some all =
-    let whole : take (suc (length rest) - 1) rest ≡ rest = take_all (suc (length rest) - 1) rest (omega arith) in
-    let taken : take i (take (suc (length rest) - 1) rest) ≡ rest = take_all i (take (suc (length rest) - 1) rest) all ∙ whole in
-    rw taken (joined_gates g rest)
-
--- the first gate and then the others behind what was there
-pub gates_appended : (o a l : List ℕ) (c : Circuit) (d : Op) (i : ℕ) → a ≡ o ++ gate_text (get_or c 0 d) → l ≡ a ++ flat_map (λ h. 59 ∷ gate_text h) (take i (take (length c - 1) (drop 1 c))) → 1 ≤ length c → length (take (length c - 1) (drop 1 c)) ≤ i → l ≡ o ++ circuit_text c
-gates_appended o a l c d i first others some all =
-    rw (others, first, gates_by_place c d i some all) (append_assoc o _ _)
+gates_joined [] some = absurd (omega arith)
+gates_joined (g ∷ rest) some = refl
 
 -- the class with this number is what the classes up to it have more
 taken_more : {A : Type 0} (xs : List A) (i : ℕ) (x : A) → slice_get xs i ≡ Some x → take (i + 1) xs ≡ take i xs ++ x ∷ []
