@@ -62,13 +62,13 @@ abbrev pub negative : Value → Value
 negative a = record a { numerator = neg_ℤ a.numerator }
 
 -- one is a multiple of pi and the other one isn't
-abbrev pub differ : Bool → Bool → Bool
-differ a b = (a && not b) || (b && not a)
+abbrev pub is_one_only : Bool → Bool → Bool
+is_one_only a b = (a && not b) || (b && not a)
 
 -- The sum. A plain number other than 0 and a multiple of pi don't go together.
 unfoldable pub sum_of : ℕ → Value → Value → Meaning
 sum_of place a b =
-    if not (is_zero a) && not (is_zero b) && differ a.is_angle b.is_angle then Err (fault.Kind place)
+    if not (is_zero a) && not (is_zero b) && is_one_only a.is_angle b.is_angle then Err (fault.Kind place)
     else in_range place ((a.numerator *ℤ pos b.denominator) +ℤ (b.numerator *ℤ pos a.denominator)) (a.denominator * b.denominator) (a.is_angle || b.is_angle)
 
 -- The product. Two multiples of pi don't go together.
@@ -115,9 +115,9 @@ abbrev pub Parser : Type 0
 Parser = List Token → Reading
 
 -- the first token is refused; where there is none, the place is that behind the last one
-abbrev pub misfit : {A : Type 0} → ℕ → List Token → Result A AngleFault
-misfit end [] = Err (fault.Form end)
-misfit end (t ∷ ts) = Err (fault.Form t.start)
+abbrev pub form_fault : {A : Type 0} → ℕ → List Token → Result A AngleFault
+form_fault end [] = Err (fault.Form end)
+form_fault end (t ∷ ts) = Err (fault.Form t.start)
 
 -- the operators of sums, and those of products
 abbrev pub is_sum_sign : Kind → Bool
@@ -142,18 +142,18 @@ chain joins operand (suc n) left (t ∷ ts) =
     else Ok (left, t ∷ ts)
 
 -- one operand or more, with operators between them
-unfoldable pub joined : (Kind → Bool) → Parser → Parser
-joined joins operand ts = do
+unfoldable pub with_operators : (Kind → Bool) → Parser → Parser
+with_operators joins operand ts = do
   first ← operand ts
   chain joins operand (length first.1) first.0 first.1
 
 -- a term: unary operands, multiplied and divided
 abbrev pub term : Parser → Parser
-term unary = joined is_product_sign unary
+term unary = with_operators is_product_sign unary
 
 -- an expression: terms, added and subtracted
 abbrev pub expression : Parser → Parser
-expression unary = joined is_sum_sign (term unary)
+expression unary = with_operators is_sum_sign (term unary)
 
 -- a closing parenthesis, before what is left
 abbrev pub is_closing : Kind → Bool
@@ -162,16 +162,16 @@ is_closing _ = false
 
 -- what stood in parentheses, where the closing one follows
 unfoldable pub closed : ℕ → Meaning → List Token → Reading
-closed end inner [] = misfit end []
-closed end inner (t ∷ ts) = if is_closing t.kind then Ok (inner, ts) else misfit end (t ∷ ts)
+closed end inner [] = form_fault end []
+closed end inner (t ∷ ts) = if is_closing t.kind then Ok (inner, ts) else form_fault end (t ∷ ts)
 
 -- a whole number or pi, by the kind of a first token
-abbrev pub atom : ℕ → Kind → Token → List Token → Reading
-atom end (Whole n) t ts = Ok (Ok (whole_value n), ts)
-atom end Pi t ts = Ok (Ok pi_value, ts)
-atom end _ t ts = misfit end (t ∷ ts)
+abbrev pub primary : ℕ → Kind → Token → List Token → Reading
+primary end (Whole n) t ts = Ok (Ok (whole_value n), ts)
+primary end Pi t ts = Ok (Ok pi_value, ts)
+primary end _ t ts = form_fault end (t ∷ ts)
 
--- a minus sign with the unary operand that it is pending on, or an expression in parentheses, or else an atom; `inner` reads
+-- a minus sign with the unary operand that it is pending on, or an expression in parentheses, or else a primary; `inner` reads
 -- unary operands one level deeper
 abbrev pub nested : ℕ → Parser → Kind → Token → List Token → Reading
 nested end inner Minus t ts = do
@@ -180,7 +180,7 @@ nested end inner Minus t ts = do
 nested end inner LeftParen t ts = do
   operand ← expression inner ts
   closed end operand.0 operand.1
-nested end inner kind t ts = atom end kind t ts
+nested end inner kind t ts = primary end kind t ts
 
 -- the tokens that go one level deeper
 abbrev pub is_opening : Kind → Bool
@@ -190,8 +190,8 @@ is_opening _ = false
 
 -- a unary operand with at most so many open parentheses and pending signs more
 unfoldable pub unary : ℕ → ℕ → Parser
-unary depth end [] = misfit end []
-unary zero end (t ∷ ts) = if is_opening t.kind then Err (fault.Deep t.start) else atom end t.kind t ts
+unary depth end [] = form_fault end []
+unary zero end (t ∷ ts) = if is_opening t.kind then Err (fault.Deep t.start) else primary end t.kind t ts
 unary (suc depth) end (t ∷ ts) = nested end (unary depth end) t.kind t ts
 
 -- ---- angles
@@ -203,7 +203,7 @@ most_nested = 32
 -- what all tokens mean, where none is left
 unfoldable pub all_read : ℕ → Meaning → List Token → Result Meaning AngleFault
 all_read end meaning [] = Ok meaning
-all_read end meaning (t ∷ ts) = misfit end (t ∷ ts)
+all_read end meaning (t ∷ ts) = form_fault end (t ∷ ts)
 
 -- where the first token begins
 abbrev pub start_of : List Token → ℕ

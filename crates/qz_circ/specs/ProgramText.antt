@@ -31,12 +31,12 @@ unfoldable pub divisor_text : ℕ → List ℕ
 divisor_text denominator = if denominator == 1 then [] else codes "/" ++ decimal denominator
 
 -- m/256 of pi, as a multiple of pi over a divisor
-unfoldable pub part_text : ℕ → List ℕ
-part_text m = let fraction = lowest_terms 8 m in multiple_text fraction.0 ++ divisor_text fraction.1
+unfoldable pub positive_angle_text : ℕ → List ℕ
+positive_angle_text m = let fraction = lowest_terms 8 m in multiple_text fraction.0 ++ divisor_text fraction.1
 
 -- The angle with number k, from 1 to 511: k/256 of pi where k is at most 256, else (k - 512)/256 of pi, which is negative.
 unfoldable pub angle_text : ℕ → List ℕ
-angle_text k = if nat_lt 256 k then codes "-" ++ part_text (512 - k) else part_text k
+angle_text k = if nat_lt 256 k then codes "-" ++ positive_angle_text (512 - k) else positive_angle_text k
 
 -- ---- registers and operands
 

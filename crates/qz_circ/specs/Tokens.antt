@@ -1,5 +1,5 @@
 -- The tokens of a text, or its leftmost fault. The source is OpenQASM 2.0; the limits and the faults are this project's own.
-use Rattle.std.specs.Prelude.{◌≡◌, ◌≢◌, ℕ, zero, suc, ◌+◌, ◌-◌, Bool, not, ◌&&◌, ◌||◌, ◌==◌, nat_lt, if◌then◌else◌, List, [], ◌∷◌, take, drop, slice_index, codes, Option, Some, None, Result, Ok, Err}
+use Rattle.std.specs.Prelude.{ℕ, zero, suc, ◌+◌, ◌-◌, Bool, not, ◌&&◌, ◌||◌, ◌==◌, nat_lt, if◌then◌else◌, List, [], ◌∷◌, take, drop, slice_index, codes, Option, Some, None, Result, Ok, Err}
 use Rattle.std.specs.Char.{is_ascii_digit, is_ascii_alphabetic, is_ascii_alphanumeric}
 use Rattle.std.specs.List.{prefix_len}
 use Rattle.std.specs.Str.{bytes_eq}
@@ -8,7 +8,7 @@ use Rattle.qz_circ.specs.declared.token.Token.{Token}
 use Rattle.qz_circ.specs.declared.token.Kind.{Kind}
 use Rattle.qz_circ.specs.declared.token.Kind.TheVariants.{Word, Pi, Whole, Real, Text, Semicolon, Comma, LeftParen, RightParen, LeftBracket, RightBracket, LeftBrace, RightBrace, Plus, Minus, Star, Slash, Caret, Arrow, Equal}
 use Rattle.qz_circ.specs.declared.fault.LexFault.{LexFault}
-use Rattle.qz_circ.specs.declared.fault.LexFault.TheVariants.{BadByte, LongName, BigNumber, Memory}
+use Rattle.qz_circ.specs.declared.fault.LexFault.TheVariants.{BadByte, LongName, BigNumber}
 use Rattle.qz_circ.specs.FirstFault.{◌>>=◌}
 
 -- what stands at the front of a text: a token of some kind, or none where it is a gap; and how many bytes it has
@@ -52,20 +52,20 @@ word place z =
 -- ---- numbers
 
 -- How long the digits at the front are, with one `.` before, among or after them where it stands there. Without a digit: 0.
-unfoldable pub decimal_len : List ℕ → ℕ
-decimal_len z =
+unfoldable pub decimal_length : List ℕ → ℕ
+decimal_length z =
     let whole = digits z in
     let after = digits (drop (whole + 1) z) in
     if slice_index z whole == 46 && nat_lt 0 (whole + after) then whole + 1 + after else whole
 
 -- one byte for a sign
-abbrev pub sign_len : ℕ → ℕ
-sign_len b = if b == 43 || b == 45 then 1 else 0
+abbrev pub sign_length : ℕ → ℕ
+sign_length b = if b == 43 || b == 45 then 1 else 0
 
 -- how long the exponent at the front is: `e` or `E`, perhaps a sign, and digits; 0 where there is none
-unfoldable pub exponent_len : List ℕ → ℕ
-exponent_len z =
-    let sign = sign_len (slice_index z 1) in
+unfoldable pub exponent_length : List ℕ → ℕ
+exponent_length z =
+    let sign = sign_length (slice_index z 1) in
     let count = digits (drop (1 + sign) z) in
     if (slice_index z 0 == 101 || slice_index z 0 == 69) && nat_lt 0 count then 1 + sign + count else 0
 
@@ -77,7 +77,7 @@ most_digits = 18
 unfoldable pub number : ℕ → List ℕ → Result Front LexFault
 number place z =
     let whole = digits z in
-    let n = decimal_len z + exponent_len (drop (decimal_len z) z) in
+    let n = decimal_length z + exponent_length (drop (decimal_length z) z) in
     if nat_lt whole n then Ok (Some Real, n)
     else if nat_lt most_digits whole then Err (BigNumber place)
     else Ok (Some (Whole (digits_value 10 (take whole z))), whole)
@@ -102,9 +102,9 @@ one_byte_sign b =
     else if b == 94 then Some Caret else None
 
 -- a sign of one byte, where there is one
-abbrev pub one_byte : ℕ → Option Kind → Result Front LexFault
-one_byte place (Some kind) = Ok (Some kind, 1)
-one_byte place None = Err (BadByte place)
+abbrev pub one_byte_token : ℕ → Option Kind → Result Front LexFault
+one_byte_token place (Some kind) = Ok (Some kind, 1)
+one_byte_token place None = Err (BadByte place)
 
 -- the sign at the front, where two bytes are taken before one
 unfoldable pub sign : ℕ → List ℕ → Result Front LexFault
@@ -113,7 +113,7 @@ sign place z =
     let next = slice_index z 1 in
     if b == 45 && next == 62 then Ok (Some Arrow, 2)
     else if b == 61 && next == 61 then Ok (Some Equal, 2)
-    else one_byte place (one_byte_sign b)
+    else one_byte_token place (one_byte_sign b)
 
 -- ---- the whole text
 
@@ -124,7 +124,7 @@ front place z =
     if is_blank b then Ok (None, prefix_len is_blank z)
     else if b == 47 && slice_index z 1 == 47 then Ok (None, prefix_len is_in_line z)
     else if is_ascii_alphabetic b then word place z
-    else if nat_lt 0 (decimal_len z) then number place z
+    else if nat_lt 0 (decimal_length z) then number place z
     else if b == 34 then quoted place z
     else sign place z
 
@@ -145,8 +145,3 @@ tokens_from zero place (b ∷ z) = do
 -- the tokens of a text, or its leftmost fault
 unfoldable pub tokens_of : List ℕ → Result (List Token) LexFault
 tokens_of bytes = tokens_from 0 0 bytes
-
--- What a call answers, seen by view, is this reading, unless memory ran out.
-abbrev pub Gives : {X Y : Type 0} → (X → Y) → Result X LexFault → Result Y LexFault → Type 0
-Gives view (Ok x) reading = reading ≡ Ok (view x)
-Gives view (Err e) reading = e ≢ Memory → reading ≡ Err e

@@ -1,10 +1,11 @@
 -- Which programs are valid. The limits are this project's own; the names are those of OpenQASM 2.0.
-use Rattle.std.specs.Prelude.{◌≡◌, ◌≢◌, ℕ, ◌<◌, ◌≤◌, ◌||◌, ◌==◌, Bool, IsTrue, List, [], ◌∷◌, ◌++◌, map, length, slice_index, Contains, codes, Option, Some, None}
-use Rattle.std.specs.Char.{is_ascii_lowercase, is_ascii_alphanumeric}
+use Rattle.std.specs.Prelude.{◌≡◌, ◌≢◌, ℕ, ◌<◌, ◌≤◌, IsTrue, List, [], ◌∷◌, ◌++◌, map, length, slice_index, Contains, codes, Option, Some, None}
+use Rattle.std.specs.Char.{is_ascii_lowercase}
 use Rattle.std.specs.List.{AllByRecursion, AllPairs}
 use Rattle.qz_circ.specs.declared.program.Arg.{Arg}
 use Rattle.qz_circ.specs.declared.program.Tail.{Tail}
 use Rattle.qz_circ.specs.declared.program.Tail.TheVariants.{Barrier, Measure}
+use Rattle.qz_circ.specs.Tokens.{is_in_word, longest_word}
 use Rattle.qz_circ.specs.ProgramCircuits.{IsProgramCircuit}
 use Rattle.qz_circ.specs.Registers.{RegisterParts, names_of, total_size}
 use Rattle.qz_circ.specs.Programs.{ProgramParts}
@@ -17,18 +18,14 @@ reserved_words =
     codes "pi" ∷ codes "include" ∷ codes "qreg" ∷ codes "creg" ∷ codes "gate" ∷ codes "opaque" ∷ codes "if" ∷
     codes "reset" ∷ codes "barrier" ∷ codes "measure" ∷ []
 
--- a letter, a digit or an underscore (95)
-abbrev pub is_in_name : ℕ → Bool
-is_in_name b = is_ascii_alphanumeric b || b == 95
-
 -- a lower-case letter, and then letters, digits and underscores
 abbrev pub IsSpelledAsName : List ℕ → Type 0
 IsSpelledAsName [] = ⊥
-IsSpelledAsName (b ∷ rest) = IsTrue (is_ascii_lowercase b) × AllByRecursion (λ c. IsTrue (is_in_name c)) rest
+IsSpelledAsName (b ∷ rest) = IsTrue (is_ascii_lowercase b) × AllByRecursion (λ c. IsTrue (is_in_word c)) rest
 
 -- what may name a register: at most 64 bytes, spelled as a name, and no reserved word
 pub record IsRegisterName (name : List ℕ) : Type 0 where
-  pub short : length name ≤ 64
+  pub short : length name ≤ longest_word
   pub spelled : IsSpelledAsName name
   pub free : ¬ Contains reserved_words name
 

@@ -86,3 +86,32 @@ pub enum AngleFault {
     /// The angle that begins here is no whole multiple of pi/256.
     NotMultiple { place: u64 },
 }
+
+/// Why a text is no program: the first fault. A place is that of a byte, counted from 0.
+#[derive(Clone, Copy, Debug, PartialEq, Eq)]
+pub enum QasmFault {
+    /// The text can't be cut into tokens. Want of memory is none of these.
+    Lex(LexFault),
+    /// The token here doesn't fit, or the text ends here too early.
+    Syntax { place: u64 },
+    /// The word, version or text here is none of those that are read, or the gate here comes after a barrier or a measurement.
+    Unsupported { place: u64 },
+    /// No gate has the name here.
+    UnknownGate { place: u64 },
+    /// No register of the right kind has the name here.
+    UnknownName { place: u64 },
+    /// An earlier register has the name here.
+    Twice { place: u64 },
+    /// The number here is at least the size of its register.
+    Index { place: u64 },
+    /// The operand here has at some repetition the qubit of an operand before it.
+    SameQubit { place: u64 },
+    /// The operand here is a register whose size doesn't go with that of an operand before it.
+    Sizes { place: u64 },
+    /// The tokens of a gate's parameter are no angle.
+    Angle(AngleFault),
+    /// The declaration or the gate here passes a limit.
+    Limit { which: Which, place: u64 },
+    /// Memory ran out.
+    Memory,
+}

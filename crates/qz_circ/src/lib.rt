@@ -1,12 +1,13 @@
 //! Circuits over Nam's gates: their order and ranks, the bounds of a generation, lists of classes, and the
 //! definitions of what circuits mean and when two are equivalent. Programs as values, and the definitions of their tokens,
-//! angles and texts.
+//! angles, grammar and texts.
 #![tactic(auto)]
 
 pub mod bound;
 pub mod circuit;
 pub mod class_list;
 pub mod fault;
+pub mod gate_name;
 pub mod laws;
 pub mod order;
 pub mod program;
@@ -15,12 +16,14 @@ pub mod report;
 pub mod step_count;
 pub mod token;
 pub mod worked_programs;
+pub mod worked_texts;
 pub mod worked_values;
 
 pub use bound::Bounds;
 pub use circuit::{Expr, Inst, Op};
 pub use class_list::Classes;
-pub use fault::{AngleFault, LexFault, LimitFault, Memory, Which};
+pub use fault::{AngleFault, LexFault, LimitFault, Memory, QasmFault, Which};
+pub use gate_name::GateName;
 pub use order::{prec, prec_insts};
 pub use program::{Arg, Args, Program, Register, Tail};
 pub use ranks::{drop_first_rank, drop_last_rank, length_of, op_number, op_of, rank, unrank};

@@ -10,7 +10,7 @@ use Rattle.std.specs.Char.{is_ascii_digit, digit_value}
 use Rattle.std.specs.Str.Parse.{digits_value}
 use Rattle.std.specs.List.{All}
 use Rattle.qz_lex.specs.Classes.{IsTokenOf}
-use Rattle.qz_circ.specs.Tokens.{Gives}
+use Rattle.qz_circ.specs.FirstFault.{GivesUnless}
 use Rattle.qz_circ.specs.declared.fault.LexFault.TheVariants.{Memory, BadByte, LongName, BigNumber}
 use Rattle.std.proofs.Common.{◌⊎◌, inl, inr}
 use Rattle.qz_circ.specs.declared.token.Token.{Token}
@@ -71,7 +71,7 @@ rest_after (suc n) place b z some =
     let same : place + 1 + n ≡ place + suc n = omega arith in
     ap (λ k. tokens_from k (place + 1) z) less ∙ taken_bytes n (place + 1) z ∙ ap (λ k. tokens_from 0 k (drop n z)) same
 
-with_token-append : (place : ℕ) (first : Front) (others : List Token) → with_token place first others ≡ with_token place first [] ++ others
+pub with_token-append : (place : ℕ) (first : Front) (others : List Token) → with_token place first others ≡ with_token place first [] ++ others
 with_token-append place (Some kind, n) others = refl
 with_token-append place (None, n) others = refl
 
@@ -110,7 +110,7 @@ part_of_front place len (Some kind, n) some fits (suc k) d h = absurd (omega ari
 part_of_front place len (None, n) some fits k d h = absurd (omega arith)
 
 -- a fault of the reading is the call's, unless memory ran out
-pub fault_given : {X Y : Type 0} (view : X → Y) (r : Result X LexFault) (reading : Result Y LexFault) (e : LexFault) → Gives view r reading → reading ≡ Err e → (r ≡ Err e) ⊎ (r ≡ Err Memory)
+pub fault_given : {X Y : Type 0} (view : X → Y) (r : Result X LexFault) (reading : Result Y LexFault) (e : LexFault) → GivesUnless Memory view r reading → reading ≡ Err e → (r ≡ Err e) ⊎ (r ≡ Err Memory)
 fault_given view (Ok x) reading e gives is = absurd (cc)
 fault_given view (Err Memory) reading e gives is = inr refl
 fault_given view (Err (BadByte p)) reading e gives is = let same = gives (λ h. cc) in inl (cc)

@@ -9,7 +9,7 @@ use Rattle.std.proofs.Math.Seq.{drop-append_seam, drop-append-add, get_or-append
 use Rattle.qz_circ.specs.declared.token.Kind.{Kind}
 use Rattle.qz_circ.specs.declared.fault.LexFault.TheVariants.{LongName, BigNumber}
 use Rattle.qz_circ.specs.declared.token.Kind.TheVariants.{Word, Pi, Whole, Real, Text, Semicolon, Comma, LeftParen, RightParen, LeftBracket, RightBracket, LeftBrace, RightBrace, Plus, Minus, Star, Slash, Caret, Arrow, Equal}
-use Rattle.qz_circ.specs.Tokens.{is_blank, is_in_line, is_in_word, is_in_quotes, digits, word, decimal_len, exponent_len, sign_len, number, quoted, one_byte_sign, sign, front}
+use Rattle.qz_circ.specs.Tokens.{is_blank, is_in_line, is_in_word, is_in_quotes, digits, word, decimal_length, exponent_length, sign_length, number, quoted, one_byte_sign, sign, front}
 use Rattle.qz_circ.specs.TokenTexts.{AreDigits, IsExponent, HasPoint, HasExponent, IsWord, Spells, Reaches}
 
 -- ---- runs of bytes of one class
@@ -21,7 +21,7 @@ run_most p (b ∷ x) rest h =
     let more = run_most p x rest parts.1 in
     rw parts.0 (omega arith)
 
-run_exact : (p : ℕ → Bool) (x : List ℕ) (b : ℕ) (rest : List ℕ) → list_all p x ≡ true → p b ≡ false → prefix_len p (x ++ b ∷ rest) ≡ length x
+pub run_exact : (p : ℕ → Bool) (x : List ℕ) (b : ℕ) (rest : List ℕ) → list_all p x ≡ true → p b ≡ false → prefix_len p (x ++ b ∷ rest) ≡ length x
 run_exact p [] b rest h ends = rw ends refl
 run_exact p (c ∷ x) b rest h ends =
     let parts = and_parts (p c) (list_all p x) h in
@@ -31,8 +31,8 @@ run_exact p (c ∷ x) b rest h ends =
 -- ---- numbers
 
 -- digits before a point and behind it
-decimal_point : (before tail : List ℕ) → AreDigits before → 0 < length before + digits tail → decimal_len (before ++ 46 ∷ tail) ≡ length before + 1 + digits tail
-unfolding decimal_len
+pub decimal_point : (before tail : List ℕ) → AreDigits before → 0 < length before + digits tail → decimal_length (before ++ 46 ∷ tail) ≡ length before + 1 + digits tail
+unfolding decimal_length
 decimal_point before tail all some =
     let whole = run_exact is_ascii_digit before 46 tail all refl in
     let point = get_or-append_seam before 46 tail 0 in
@@ -40,8 +40,8 @@ decimal_point before tail all some =
     let test : nat_lt 0 (length before + digits tail) ≡ true = grind (arith, nat_tests) in
     rw (whole, point, behind, test) refl
 
-decimal_plain : (whole : List ℕ) (b : ℕ) (tail : List ℕ) → AreDigits whole → is_ascii_digit b ≡ false → (b == 46) ≡ false → decimal_len (whole ++ b ∷ tail) ≡ length whole
-unfolding decimal_len
+pub decimal_plain : (whole : List ℕ) (b : ℕ) (tail : List ℕ) → AreDigits whole → is_ascii_digit b ≡ false → (b == 46) ≡ false → decimal_length (whole ++ b ∷ tail) ≡ length whole
+unfolding decimal_length
 decimal_plain whole b tail all ends other =
     let run = run_exact is_ascii_digit whole b tail all ends in
     let point = get_or-append_seam whole b tail 0 in
@@ -51,23 +51,23 @@ more_or_same : (t : Bool) (a b : ℕ) → a ≤ cond t (a + 1 + b) a
 more_or_same true a b = omega arith
 more_or_same false a b = omega arith
 
-decimal_whole : (z : List ℕ) → digits z ≤ decimal_len z
-unfolding decimal_len
+decimal_whole : (z : List ℕ) → digits z ≤ decimal_length z
+unfolding decimal_length
 decimal_whole z = more_or_same _ (digits z) (digits (drop (digits z + 1) z))
 
-is_e : (e : ℕ) → (e ≡ 101) ⊎ (e ≡ 69) → ((e == 101) || (e == 69)) ≡ true
+pub is_e : (e : ℕ) → (e ≡ 101) ⊎ (e ≡ 69) → ((e == 101) || (e == 69)) ≡ true
 is_e e (inl h) = rw h refl
 is_e e (inr h) = rw h refl
 
-is_sign : (b : ℕ) → (b ≡ 43) ⊎ (b ≡ 45) → sign_len b ≡ 1
+pub is_sign : (b : ℕ) → (b ≡ 43) ⊎ (b ≡ 45) → sign_length b ≡ 1
 is_sign b (inl h) = rw h refl
 is_sign b (inr h) = rw h refl
 
-is_no_sign : (b : ℕ) → is_ascii_digit b ≡ true → sign_len b ≡ 0
+pub is_no_sign : (b : ℕ) → is_ascii_digit b ≡ true → sign_length b ≡ 0
 is_no_sign b h = grind (arith, nat_tests)
 
-exponent_most : (x rest : List ℕ) → IsExponent x → length x ≤ exponent_len (x ++ rest)
-unfolding exponent_len
+exponent_most : (x rest : List ℕ) → IsExponent x → length x ≤ exponent_length (x ++ rest)
+unfolding exponent_length
 exponent_most [] rest h = absurd h
 exponent_most (e ∷ []) rest h = absurd h.1
 exponent_most (e ∷ b ∷ x) rest (letter, inl all) =
@@ -89,12 +89,12 @@ number_choice false false len n whole value place less most = omega (arith, less
 not_less : (a b : ℕ) → nat_lt a b ≡ false → b ≤ a
 not_less a b h = grind (arith, nat_tests)
 
-number_reaches : (place len : ℕ) (z : List ℕ) → len ≤ decimal_len z + exponent_len (drop (decimal_len z) z) → Reaches len (number place z)
+number_reaches : (place len : ℕ) (z : List ℕ) → len ≤ decimal_length z + exponent_length (drop (decimal_length z) z) → Reaches len (number place z)
 unfolding number
 number_reaches place len z most = number_choice _ _ len _ (digits z) _ place (not_less (digits z) _) most
 
 -- what begins a number
-abbrev BeginsNumber : ℕ → Type 0
+abbrev pub BeginsNumber : ℕ → Type 0
 BeginsNumber b = (is_ascii_digit b ≡ true) ⊎ (b ≡ 46)
 
 record IsNoOther (b : ℕ) : Type 0 where
@@ -106,19 +106,19 @@ no_other : (b : ℕ) → BeginsNumber b → IsNoOther b
 no_other b (inl h) = record { blank = grind (arith, nat_tests); slash = grind (arith, nat_tests); letter = grind (arith, nat_tests) }
 no_other b (inr h) = rw h record { blank = refl; slash = refl; letter = refl }
 
-front_number : (place : ℕ) (z : List ℕ) → BeginsNumber (slice_index z 0) → 0 < decimal_len z → front place z ≡ number place z
+pub front_number : (place : ℕ) (z : List ℕ) → BeginsNumber (slice_index z 0) → 0 < decimal_length z → front place z ≡ number place z
 unfolding front
 front_number place z begins some =
     let other = no_other (slice_index z 0) begins in
-    let test : nat_lt 0 (decimal_len z) ≡ true = grind (arith, nat_tests) in
+    let test : nat_lt 0 (decimal_length z) ≡ true = grind (arith, nat_tests) in
     rw (other.blank, other.slash, other.letter, test) refl
 
 -- the first byte of digits before another byte
-first_digit : (x : List ℕ) (b : ℕ) (rest : List ℕ) → AreDigits x → BeginsNumber b → BeginsNumber (slice_index (x ++ b ∷ rest) 0)
+pub first_digit : (x : List ℕ) (b : ℕ) (rest : List ℕ) → AreDigits x → BeginsNumber b → BeginsNumber (slice_index (x ++ b ∷ rest) 0)
 first_digit [] b rest all begins = begins
 first_digit (c ∷ x) b rest all begins = inl (and_parts (is_ascii_digit c) (list_all is_ascii_digit x) all).0
 
-first_of_digits : (x rest : List ℕ) → AreDigits x → 0 < length x → BeginsNumber (slice_index (x ++ rest) 0)
+pub first_of_digits : (x rest : List ℕ) → AreDigits x → 0 < length x → BeginsNumber (slice_index (x ++ rest) 0)
 first_of_digits [] rest all some = absurd (omega arith)
 first_of_digits (c ∷ x) rest all some = inl (and_parts (is_ascii_digit c) (list_all is_ascii_digit x) all).0
 
@@ -126,17 +126,17 @@ first_of_digits (c ∷ x) rest all some = inl (and_parts (is_ascii_digit c) (lis
 whole_reaches : (place : ℕ) (x rest : List ℕ) → AreDigits x → 0 < length x → Reaches (length x) (front place (x ++ rest))
 whole_reaches place x rest all some =
     let z = x ++ rest in
-    let most : length x ≤ decimal_len z = omega (arith, run_most is_ascii_digit x rest all, decimal_whole z) in
+    let most : length x ≤ decimal_length z = omega (arith, run_most is_ascii_digit x rest all, decimal_whole z) in
     rw (front_number place z (first_of_digits x rest all some) (omega arith)) (number_reaches place (length x) z (omega arith))
 
 -- the exponent's first byte is no digit and no point
-exponent_first : (x : List ℕ) → IsExponent x → (b : ℕ) × (ys : List ℕ) × (x ≡ b ∷ ys) × (is_ascii_digit b ≡ false) × ((b == 46) ≡ false)
+pub exponent_first : (x : List ℕ) → IsExponent x → (b : ℕ) × (ys : List ℕ) × (x ≡ b ∷ ys) × (is_ascii_digit b ≡ false) × ((b == 46) ≡ false)
 exponent_first [] h = absurd h
 exponent_first (e ∷ y) (inl h, digits) = (e, y, refl, rw h refl, rw h refl)
 exponent_first (e ∷ y) (inr h, digits) = (e, y, refl, rw h refl, rw h refl)
 
 -- digits, and behind them an exponent
-exponent_follows : (whole exponent rest : List ℕ) → AreDigits whole → IsExponent exponent → prefix_len is_ascii_digit (whole ++ (exponent ++ rest)) ≡ length whole
+pub exponent_follows : (whole exponent rest : List ℕ) → AreDigits whole → IsExponent exponent → prefix_len is_ascii_digit (whole ++ (exponent ++ rest)) ≡ length whole
 exponent_follows whole exponent rest all ends =
     let first = exponent_first exponent ends in
     rw first.2 (run_exact is_ascii_digit whole first.0 (first.1 ++ rest) all first.3)
@@ -145,7 +145,7 @@ drop_front : (a b : List ℕ) (n : ℕ) → n ≡ length a → drop n (a ++ b) �
 drop_front a b n same = rw same (drop-append_seam a b)
 
 -- digits with a point and an exponent, or without one
-point_len : (before after exponent rest : List ℕ) → AreDigits before → AreDigits after → 0 < length before + length after → (exponent ≡ []) ⊎ IsExponent exponent → length before + 1 + length after + length exponent ≤ decimal_len (before ++ 46 ∷ (after ++ (exponent ++ rest))) + exponent_len (drop (decimal_len (before ++ 46 ∷ (after ++ (exponent ++ rest)))) (before ++ 46 ∷ (after ++ (exponent ++ rest))))
+point_len : (before after exponent rest : List ℕ) → AreDigits before → AreDigits after → 0 < length before + length after → (exponent ≡ []) ⊎ IsExponent exponent → length before + 1 + length after + length exponent ≤ decimal_length (before ++ 46 ∷ (after ++ (exponent ++ rest))) + exponent_length (drop (decimal_length (before ++ 46 ∷ (after ++ (exponent ++ rest)))) (before ++ 46 ∷ (after ++ (exponent ++ rest))))
 point_len before after exponent rest b a some (inl none) =
     let most = run_most is_ascii_digit after (exponent ++ rest) a in
     let is = decimal_point before (after ++ (exponent ++ rest)) b (omega (arith, most)) in
@@ -154,13 +154,13 @@ point_len before after exponent rest b a some (inl none) =
 point_len before after exponent rest b a some (inr ends) =
     let tail = after ++ (exponent ++ rest) in
     let run = exponent_follows after exponent rest a ends in
-    let is : decimal_len (before ++ 46 ∷ tail) ≡ length before + 1 + length after = decimal_point before tail b (omega (arith, run)) ∙ ap (λ n. length before + 1 + n) run in
+    let is : decimal_length (before ++ 46 ∷ tail) ≡ length before + 1 + length after = decimal_point before tail b (omega (arith, run)) ∙ ap (λ n. length before + 1 + n) run in
     let behind : drop (length before + 1 + length after) (before ++ 46 ∷ tail) ≡ exponent ++ rest =
     (let shape : length before + 1 + length after ≡ length before + suc (length after) = omega arith in
     rw shape (drop-append-add before (46 ∷ tail) (suc (length after)) ∙ drop-append_seam after (exponent ++ rest))) in
     rw (is, behind) (omega (arith, exponent_most exponent rest ends))
 
-regrouped : (before after exponent rest : List ℕ) → (before ++ 46 ∷ (after ++ exponent)) ++ rest ≡ before ++ 46 ∷ (after ++ (exponent ++ rest))
+pub regrouped : (before after exponent rest : List ℕ) → (before ++ 46 ∷ (after ++ exponent)) ++ rest ≡ before ++ 46 ∷ (after ++ (exponent ++ rest))
 regrouped before after exponent rest = simp append_assoc
 
 point_reaches : (place : ℕ) (before after exponent rest : List ℕ) → AreDigits before → AreDigits after → 0 < length before + length after → (exponent ≡ []) ⊎ IsExponent exponent → Reaches (length (before ++ 46 ∷ (after ++ exponent))) (front place ((before ++ 46 ∷ (after ++ exponent)) ++ rest))
@@ -180,9 +180,9 @@ exponent_reaches : (place : ℕ) (whole exponent rest : List ℕ) → AreDigits 
 exponent_reaches place whole exponent rest all some ends =
     let z = whole ++ (exponent ++ rest) in
     let first = exponent_first exponent ends in
-    let is : decimal_len z ≡ length whole = rw first.2 (decimal_plain whole first.0 (first.1 ++ rest) all first.3 first.4) in
-    let behind : drop (decimal_len z) z ≡ exponent ++ rest = drop_front whole (exponent ++ rest) (decimal_len z) is in
-    let more : length (whole ++ exponent) ≤ decimal_len z + exponent_len (drop (decimal_len z) z) = rw behind (omega (arith, is, length-append whole exponent, exponent_most exponent rest ends)) in
+    let is : decimal_length z ≡ length whole = rw first.2 (decimal_plain whole first.0 (first.1 ++ rest) all first.3 first.4) in
+    let behind : drop (decimal_length z) z ≡ exponent ++ rest = drop_front whole (exponent ++ rest) (decimal_length z) is in
+    let more : length (whole ++ exponent) ≤ decimal_length z + exponent_length (drop (decimal_length z) z) = rw behind (omega (arith, is, length-append whole exponent, exponent_most exponent rest ends)) in
     rw (append_assoc whole exponent rest, front_number place z (first_of_digits whole (exponent ++ rest) all some) (omega (arith, is)))
     (number_reaches place _ z more)
 
@@ -208,7 +208,7 @@ record IsLetter (b : ℕ) : Type 0 where
 letter_tests : (b : ℕ) → is_ascii_alphabetic b ≡ true → IsLetter b
 letter_tests b h = record { blank = grind (arith, nat_tests); slash = grind (arith, nat_tests); in_word = grind (arith, nat_tests) }
 
-front_word : (place b : ℕ) (z : List ℕ) → is_ascii_alphabetic b ≡ true → front place (b ∷ z) ≡ word place (b ∷ z)
+pub front_word : (place b : ℕ) (z : List ℕ) → is_ascii_alphabetic b ≡ true → front place (b ∷ z) ≡ word place (b ∷ z)
 unfolding front
 front_word place b z h = let tests = letter_tests b h in rw (tests.blank, tests.slash, h) refl
 
@@ -221,7 +221,7 @@ words_reach place (b ∷ x) rest h =
 -- ---- texts and signs
 
 quoted_reaches : (place : ℕ) (inside rest : List ℕ) → list_all is_in_quotes inside ≡ true → Reaches (length inside + 2) (front place (34 ∷ (inside ++ 34 ∷ rest)))
-unfolding front decimal_len quoted
+unfolding front decimal_length quoted
 quoted_reaches place inside rest all =
     let run = run_exact is_in_quotes inside 34 rest all refl in
     let seam = get_or-append_seam inside 34 rest 0 in
@@ -238,7 +238,7 @@ one_or_two true first second = omega arith
 one_or_two false first second = omega arith
 
 minus_reaches : (place : ℕ) (rest : List ℕ) → Reaches 1 (front place (45 ∷ rest))
-unfolding front decimal_len sign one_byte_sign
+unfolding front decimal_length sign one_byte_sign
 minus_reaches place rest = one_or_two _ (Some Arrow) (Some Minus)
 
 one_or_more : (t : Bool) (n : ℕ) (second : Option Kind) → Reaches 1 (cond t (Ok (None, 1 + n)) (Ok (second, 1)))
@@ -246,11 +246,11 @@ one_or_more true n second = omega arith
 one_or_more false n second = omega arith
 
 slash_reaches : (place : ℕ) (rest : List ℕ) → Reaches 1 (front place (47 ∷ rest))
-unfolding front decimal_len sign one_byte_sign
+unfolding front decimal_length sign one_byte_sign
 slash_reaches place rest = one_or_more _ (prefix_len is_in_line rest) (Some Slash)
 
 pub reaches : (place : ℕ) (kind : Kind) (x rest : List ℕ) → Spells kind x → Reaches (length x) (front place (x ++ rest))
-unfolding front decimal_len sign one_byte_sign
+unfolding front decimal_length sign one_byte_sign
 reaches place Word x rest h = words_reach place x rest h.0
 reaches place Pi x rest h = rw h (words_reach place (codes "pi") rest (refl, refl))
 reaches place (Whole n) x rest h = whole_reaches place x rest h.0 h.1

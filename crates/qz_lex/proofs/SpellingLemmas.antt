@@ -14,7 +14,7 @@ use Rattle.qz_circ.specs.declared.token.Kind.{Kind}
 use Rattle.qz_circ.specs.declared.fault.LexFault.{LexFault}
 use Rattle.qz_circ.specs.declared.fault.LexFault.TheVariants.{Memory}
 use Rattle.qz_circ.specs.declared.token.Kind.TheVariants.{Semicolon, Comma, LeftParen, RightParen, LeftBracket, RightBracket, LeftBrace, RightBrace, Plus, Minus, Star, Slash, Caret}
-use Rattle.qz_circ.specs.Tokens.{Front, is_blank, is_in_word, is_in_quotes, digits, word, decimal_len, exponent_len, sign_len, number, quoted, one_byte_sign, one_byte, sign, front}
+use Rattle.qz_circ.specs.Tokens.{Front, is_blank, is_in_word, is_in_quotes, digits, word, decimal_length, exponent_length, sign_length, number, quoted, one_byte_sign, one_byte_token, sign, front}
 use Rattle.qz_circ.specs.FirstFault.{◌>>=◌}
 use Rattle.qz_circ.specs.Tokens.{tokens_from, tokens_of}
 use Rattle.qz_circ.specs.TokenTexts.{AreDigits, AreSignedDigits, IsExponent, HasPoint, HasExponent, IsWord, Spells, IsWithinLimit, IsRight}
@@ -76,7 +76,7 @@ signed_digits [] all some = absurd (omega arith)
 signed_digits (b ∷ x) all some = inl all
 
 -- whether a byte is a sign
-sign_cases : (b : ℕ) → (((b ≡ 43) ⊎ (b ≡ 45)) × (sign_len b ≡ 1)) ⊎ (sign_len b ≡ 0)
+sign_cases : (b : ℕ) → (((b ≡ 43) ⊎ (b ≡ 45)) × (sign_length b ≡ 1)) ⊎ (sign_length b ≡ 0)
 sign_cases b = elim (cond_cases {A = ℕ} ((b == 43) || (b == 45)) 1 0) [ inl h ↦ inl (either_by_test b 43 45 h.0, h.1) | inr h ↦ inr h.1 ]
 
 signed_by : (b : ℕ) (y : List ℕ) (s : ℕ) → ((b ≡ 43) ⊎ (b ≡ 45)) → s ≡ 1 → 0 < digits (drop s (b ∷ y)) → AreSignedDigits (take (s + digits (drop s (b ∷ y))) (b ∷ y))
@@ -96,27 +96,27 @@ unsigned_by b y s is some =
 add_to_suc : (a b : ℕ) → suc a + b ≡ suc (a + b)
 add_to_suc a b = omega arith
 
-signed_tail : (b : ℕ) (y : List ℕ) → 0 < digits (drop (sign_len b) (b ∷ y)) → AreSignedDigits (take (sign_len b + digits (drop (sign_len b) (b ∷ y))) (b ∷ y))
+signed_tail : (b : ℕ) (y : List ℕ) → 0 < digits (drop (sign_length b) (b ∷ y)) → AreSignedDigits (take (sign_length b + digits (drop (sign_length b) (b ∷ y))) (b ∷ y))
 signed_tail b y some = elim (sign_cases b) [
-  | inl h ↦ signed_by b y (sign_len b) h.0 h.1 some
-  | inr h ↦ unsigned_by b y (sign_len b) h some
+  | inl h ↦ signed_by b y (sign_length b) h.0 h.1 some
+  | inr h ↦ unsigned_by b y (sign_length b) h some
 ]
 
-exponent_cases : (e b : ℕ) (y : List ℕ) → (exponent_len (e ∷ b ∷ y) ≡ 0) ⊎ (((e ≡ 101) ⊎ (e ≡ 69)) × (0 < digits (drop (1 + sign_len b) (e ∷ b ∷ y))) × (exponent_len (e ∷ b ∷ y) ≡ 1 + sign_len b + digits (drop (1 + sign_len b) (e ∷ b ∷ y))))
-unfolding exponent_len
+exponent_cases : (e b : ℕ) (y : List ℕ) → (exponent_length (e ∷ b ∷ y) ≡ 0) ⊎ (((e ≡ 101) ⊎ (e ≡ 69)) × (0 < digits (drop (1 + sign_length b) (e ∷ b ∷ y))) × (exponent_length (e ∷ b ∷ y) ≡ 1 + sign_length b + digits (drop (1 + sign_length b) (e ∷ b ∷ y))))
+unfolding exponent_length
 exponent_cases e b y =
-    let count = digits (drop (1 + sign_len b) (e ∷ b ∷ y)) in
+    let count = digits (drop (1 + sign_length b) (e ∷ b ∷ y)) in
     let letter = (e == 101) || (e == 69) in
-    elim (cond_cases {A = ℕ} (letter && nat_lt 0 count) (1 + sign_len b + count) 0) [
+    elim (cond_cases {A = ℕ} (letter && nat_lt 0 count) (1 + sign_length b + count) 0) [
       | inl h ↦ (let parts = and_parts letter (nat_lt 0 count) h.0 in inr (either_by_test e 101 69 parts.0, less_by_test 0 count parts.1, h.1))
       | inr h ↦ inl h.1
     ]
 
-exponent_found : (e b n : ℕ) (y : List ℕ) → ((e ≡ 101) ⊎ (e ≡ 69)) → 0 < digits (drop (1 + sign_len b) (e ∷ b ∷ y)) → n ≡ 1 + sign_len b + digits (drop (1 + sign_len b) (e ∷ b ∷ y)) → IsExponent (take n (e ∷ b ∷ y))
+exponent_found : (e b n : ℕ) (y : List ℕ) → ((e ≡ 101) ⊎ (e ≡ 69)) → 0 < digits (drop (1 + sign_length b) (e ∷ b ∷ y)) → n ≡ 1 + sign_length b + digits (drop (1 + sign_length b) (e ∷ b ∷ y)) → IsExponent (take n (e ∷ b ∷ y))
 exponent_found e b n y letter some is =
-    let front : 1 + sign_len b ≡ suc (sign_len b) = omega arith in
-    let found : 0 < digits (drop (sign_len b) (b ∷ y)) = rw front at some in
-    let len : n ≡ suc (sign_len b + digits (drop (sign_len b) (b ∷ y))) = (rw front at is) ∙ add_to_suc (sign_len b) (digits (drop (sign_len b) (b ∷ y))) in
+    let front : 1 + sign_length b ≡ suc (sign_length b) = omega arith in
+    let found : 0 < digits (drop (sign_length b) (b ∷ y)) = rw front at some in
+    let len : n ≡ suc (sign_length b + digits (drop (sign_length b) (b ∷ y))) = (rw front at is) ∙ add_to_suc (sign_length b) (digits (drop (sign_length b) (b ∷ y))) in
     rw len (letter, signed_tail b y found)
 
 never : (t : Bool) (n : ℕ) → cond (t && false) n 0 ≡ 0
@@ -124,14 +124,14 @@ never true n = refl
 never false n = refl
 
 -- an exponent stands at the front, or has no bytes
-exponent_at : (z : List ℕ) → (exponent_len z ≡ 0) ⊎ IsExponent (take (exponent_len z) z)
-unfolding exponent_len
+exponent_at : (z : List ℕ) → (exponent_length z ≡ 0) ⊎ IsExponent (take (exponent_length z) z)
+unfolding exponent_length
 exponent_at [] = inl refl
 exponent_at (e ∷ []) = inl (never ((e == 101) || (e == 69)) _)
 exponent_at (e ∷ b ∷ y) = elim (exponent_cases e b y) [ inl none ↦ inl none | inr h ↦ inr (exponent_found e b _ y h.0 h.1 h.2) ]
 
-decimal_cases : (z : List ℕ) → ((slice_index z (digits z) ≡ 46) × (0 < digits z + digits (drop (digits z + 1) z)) × (decimal_len z ≡ digits z + 1 + digits (drop (digits z + 1) z))) ⊎ (decimal_len z ≡ digits z)
-unfolding decimal_len
+decimal_cases : (z : List ℕ) → ((slice_index z (digits z) ≡ 46) × (0 < digits z + digits (drop (digits z + 1) z)) × (decimal_length z ≡ digits z + 1 + digits (drop (digits z + 1) z))) ⊎ (decimal_length z ≡ digits z)
+unfolding decimal_length
 decimal_cases z =
     let whole = digits z in
     let after = digits (drop (whole + 1) z) in
@@ -174,7 +174,7 @@ with_exponent z whole e is_whole some ends =
     let len : length (take whole z) ≡ whole = rw is_whole (run_len is_ascii_digit z) in
     record { whole = take whole z; exponent = take e (drop whole z); is = take-add whole e z; digits = all; some = omega (arith, len); ends = ends }
 
-real_spelled : (z : List ℕ) (d : ℕ) → d ≡ decimal_len z → 0 < d → digits z < d + exponent_len (drop d z) → HasPoint (take (d + exponent_len (drop d z)) z) ⊎ HasExponent (take (d + exponent_len (drop d z)) z)
+real_spelled : (z : List ℕ) (d : ℕ) → d ≡ decimal_length z → 0 < d → digits z < d + exponent_length (drop d z) → HasPoint (take (d + exponent_length (drop d z)) z) ⊎ HasExponent (take (d + exponent_length (drop d z)) z)
 real_spelled z d is some more = elim (decimal_cases z) [
   | inl p ↦ (let same : d ≡ digits z + 1 + digits (drop (digits z + 1) z) = is ∙ p.2 in
       rw same (inl (with_point z (digits z) (digits (drop (digits z + 1) z)) _ refl refl p.0 p.1 (exponent_at _))))
@@ -185,14 +185,14 @@ real_spelled z d is some more = elim (decimal_cases z) [
       ])
 ]
 
-number_right : (place : ℕ) (z : List ℕ) → 0 < decimal_len z → IsRight place z (number place z)
+number_right : (place : ℕ) (z : List ℕ) → 0 < decimal_length z → IsRight place z (number place z)
 unfolding number
 number_right place z some =
     let whole = digits z in
-    let n = decimal_len z + exponent_len (drop (decimal_len z) z) in
+    let n = decimal_length z + exponent_length (drop (decimal_length z) z) in
     let len = run_len is_ascii_digit z in
     right_either place z (nat_lt whole n) _ _
-    (λ more. (real_spelled z (decimal_len z) refl some (less_by_test whole n more), tt))
+    (λ more. (real_spelled z (decimal_length z) refl some (less_by_test whole n more), tt))
     (λ same. right_either place z (nat_lt 18 whole) _ _
     (λ big. (refl, (whole, run_all is_ascii_digit z, less_by_test 18 whole big, prefix_len-le-length is_ascii_digit z)))
     (λ small. ((run_all is_ascii_digit z, omega (arith, len, at_most_by_test whole n same), refl), at_most_by_test 18 whole small)))
@@ -235,11 +235,11 @@ quoted_right place z =
     )))
     (λ other. refl)
 
-sign_choice : (place b : ℕ) (z : List ℕ) (t : Bool) (kind : Kind) (others : Option Kind) → (t ≡ true → Spells kind (b ∷ [])) → IsWithinLimit kind 1 → IsRight place (b ∷ z) (one_byte place others) → IsRight place (b ∷ z) (one_byte place (cond t (Some kind) others))
+sign_choice : (place b : ℕ) (z : List ℕ) (t : Bool) (kind : Kind) (others : Option Kind) → (t ≡ true → Spells kind (b ∷ [])) → IsWithinLimit kind 1 → IsRight place (b ∷ z) (one_byte_token place others) → IsRight place (b ∷ z) (one_byte_token place (cond t (Some kind) others))
 sign_choice place b z true kind others spells limit rest = (spells refl, limit)
 sign_choice place b z false kind others spells limit rest = rest
 
-sign_step : (place b c : ℕ) (z : List ℕ) (kind : Kind) (others : Option Kind) → (b ≡ c → Spells kind (b ∷ [])) → IsWithinLimit kind 1 → IsRight place (b ∷ z) (one_byte place others) → IsRight place (b ∷ z) (one_byte place (cond (b == c) (Some kind) others))
+sign_step : (place b c : ℕ) (z : List ℕ) (kind : Kind) (others : Option Kind) → (b ≡ c → Spells kind (b ∷ [])) → IsWithinLimit kind 1 → IsRight place (b ∷ z) (one_byte_token place others) → IsRight place (b ∷ z) (one_byte_token place (cond (b == c) (Some kind) others))
 sign_step place b c z kind others spells limit rest = sign_choice place b z (b == c) kind others (λ h. spells (equal_by_test b c h)) limit rest
 
 two_taken : (b c : ℕ) (z : List ℕ) → slice_index z 0 ≡ c → 0 < c → take 2 (b ∷ z) ≡ b ∷ c ∷ []
@@ -280,7 +280,7 @@ front_right place (b ∷ z) some =
     right_either place (b ∷ z) (is_blank b) _ _ (λ _. tt)
     (λ _. right_either place (b ∷ z) ((b == 47) && (slice_index z 0 == 47)) _ _ (λ _. tt)
     (λ _. right_either place (b ∷ z) (is_ascii_alphabetic b) _ _ (word_right place b z)
-    (λ _. right_either place (b ∷ z) (nat_lt 0 (decimal_len (b ∷ z))) _ _ (λ h. number_right place (b ∷ z) (less_by_test 0 _ h))
+    (λ _. right_either place (b ∷ z) (nat_lt 0 (decimal_length (b ∷ z))) _ _ (λ h. number_right place (b ∷ z) (less_by_test 0 _ h))
     (λ _. right_either place (b ∷ z) (b == 34) _ _ (λ h. subst P (sym (equal_by_test b 34 h)) (quoted_right place z))
     (λ _. sign_right place b z)))))
 

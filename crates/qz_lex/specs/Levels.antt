@@ -4,7 +4,7 @@ use Rattle.qz_circ.specs.declared.token.Kind.{Kind}
 use Rattle.qz_circ.specs.declared.token.Token.{Token}
 use Rattle.qz_circ.specs.declared.fault.AngleFault.{AngleFault}
 use Rattle.qz_circ.specs.FirstFault.{◌>>=◌}
-use Rattle.qz_circ.specs.Angle.{Parser, Meaning, term, joined, all_read, turns_of, is_sum_sign, is_product_sign}
+use Rattle.qz_circ.specs.Angle.{Parser, Meaning, term, with_operators, all_read, turns_of, is_sum_sign, is_product_sign}
 use Rattle.qz_lex.specs.declared.expression.Level.{Level}
 use Rattle.qz_lex.specs.declared.expression.Level.TheVariants.{Sum, Product}
 
@@ -20,7 +20,7 @@ operand_at Product unary = unary
 
 -- what they make of it
 abbrev pub joined_at : Level → Parser → Parser
-joined_at level unary = joined (joins_at level) (operand_at level unary)
+joined_at level unary = with_operators (joins_at level) (operand_at level unary)
 
 -- an operator of the level comes first
 abbrev pub continues_at : Level → List Token → Bool

@@ -1,5 +1,5 @@
 -- Values of the code as those of the definitions.
-use Rattle.std.specs.Prelude.{Result, Ok, Err, ◌≡◌}
+use Rattle.std.specs.Prelude.{Result, Ok, Err}
 use Rattle.qz_circ.specs.declared.fault.AngleFault.{AngleFault}
 use Rattle.qz_circ.specs.Angle as spec
 use Rattle.qz_circ.specs.Angle.{negative_if, Meaning}
@@ -13,8 +13,3 @@ view a = record { numerator = negative_if a.is_negative a.size; denominator = a.
 abbrev pub meaning_of : Result Fraction AngleFault → Meaning
 meaning_of (Ok a) = Ok (view a)
 meaning_of (Err e) = Err e
-
--- What a call answers, seen by view, is this reading.
-abbrev pub Gives : {X Y : Type 0} → (X → Y) → Result X AngleFault → Result Y AngleFault → Type 0
-Gives view (Ok x) reading = reading ≡ Ok (view x)
-Gives view (Err e) reading = reading ≡ Err e

@@ -2,7 +2,8 @@
 ghost use Rattle.std.specs.Prelude.{◌≡◌, ◌≢◌, ℕ, ◌+◌, ◌<◌, ◌≤◌, length, ◌∷◌, [], IfOk, MatchOption, true, false, Ok};
 ghost use Rattle.qz_circ.specs.Angle as spec;
 ghost use Rattle.qz_circ.specs.Angle.{angle_of};
-ghost use Rattle.qz_lex.specs.Values.{view, meaning_of, Gives};
+ghost use Rattle.qz_lex.specs.Values.{view, meaning_of};
+ghost use Rattle.qz_circ.specs.FirstFault.{Gives};
 ghost use Rattle.qz_lex.specs.Levels.{joins_at, operand_at, joined_at, continues_at, turns_at_end};
 
 use crate::fraction::Fraction;
@@ -83,8 +84,8 @@ fn signed(sign: Token, operand: Meaning) -> Meaning
 }
 
 // A whole number or pi, by the first token.
-fn atom(end: u64, first: Token, rest: &[Token]) -> Result<(Meaning, &[Token]), AngleFault>
-    ensures { Gives (λ x. (meaning_of x.0, x.1.now)) result (spec.atom end first.kind first rest.now) }
+fn primary(end: u64, first: Token, rest: &[Token]) -> Result<(Meaning, &[Token]), AngleFault>
+    ensures { Gives (λ x. (meaning_of x.0, x.1.now)) result (spec.primary end first.kind first rest.now) }
 {
     match first.kind {
         Kind::Whole(n) => Ok((Ok(whole(n)), rest)),
@@ -95,7 +96,7 @@ fn atom(end: u64, first: Token, rest: &[Token]) -> Result<(Meaning, &[Token]), A
     }
 }
 
-// An atom, where no parenthesis and no sign may come any more.
+// A primary, where no parenthesis and no sign may come any more.
 #[tactic(auto, unfolding(qz_circ::specs::Angle::unary))]
 fn innermost(end: u64, first: Token, rest: &[Token]) -> Result<(Meaning, &[Token]), AngleFault>
     ensures { Gives (λ x. (meaning_of x.0, x.1.now)) result (spec.unary 0 end (first ∷ rest.now)) }
@@ -105,7 +106,7 @@ fn innermost(end: u64, first: Token, rest: &[Token]) -> Result<(Meaning, &[Token
             place: u64::from(first.start),
         });
     }
-    atom(end, first, rest)
+    primary(end, first, rest)
 }
 
 // What stood in parentheses, where the closing one follows.
@@ -161,12 +162,12 @@ fn nested(
             }
         }
         Kind::LeftParen => {
-            match joined(Level::Sum, depth, end, rest) {
+            match with_operators(Level::Sum, depth, end, rest) {
                 Ok((inner, rest)) => closed(end, inner, rest),
                 Err(fault) => Err(fault),
             }
         }
-        _ => atom(end, first, rest),
+        _ => primary(end, first, rest),
     }
 }
 
@@ -181,15 +182,15 @@ fn operand(
     ensures { Gives (λ x. (meaning_of x.0, x.1.now)) result (operand_at level (spec.unary depth end) tokens.now) }
 {
     match level {
-        Level::Sum => joined(Level::Product, depth, end, tokens),
+        Level::Sum => with_operators(Level::Product, depth, end, tokens),
         Level::Product => unary(depth, end, tokens),
     }
 }
 
 // One operand or more, with operators of this level between them.
 #[cycle(angle)]
-#[tactic(auto, unfolding(qz_circ::specs::Angle::joined))]
-fn joined(
+#[tactic(auto, unfolding(qz_circ::specs::Angle::with_operators))]
+fn with_operators(
     level: Level,
     depth: u32,
     end: u64,
@@ -270,7 +271,7 @@ pub fn angle(t: &[Token]) -> Result<u16, AngleFault>
     ensures below { IfOk result (λ k. k < 512) }
 {
     let end = end_of(t);
-    match joined(Level::Sum, MOST_NESTED, end, t) {
+    match with_operators(Level::Sum, MOST_NESTED, end, t) {
         Ok((meaning, rest)) => finished(start_of(t), end, meaning, rest),
         Err(fault) => Err(fault),
     }

@@ -4,7 +4,8 @@ ghost use Rattle.std.specs.Char.{is_ascii_alphabetic};
 ghost use Rattle.std.specs.List.{prefix_len, All};
 ghost use Rattle.std.specs.Str.Parse.{digits_value};
 ghost use Rattle.qz_circ.specs.Tokens as spec;
-ghost use Rattle.qz_circ.specs.Tokens.{Gives, tokens_of, with_token};
+ghost use Rattle.qz_circ.specs.Tokens.{tokens_of, with_token};
+ghost use Rattle.qz_circ.specs.FirstFault.{GivesUnless};
 ghost use Rattle.qz_lex.specs.Classes.{is_of, IsPart, IsTokenOf};
 
 use qz_circ::{Kind, LexFault, Token};
@@ -76,9 +77,9 @@ fn word(place: u64, z: &[u8]) -> Result<Front, LexFault>
 }
 
 // How long the digits at the front are, with one point.
-#[tactic(auto, unfolding(qz_circ::specs::Tokens::decimal_len))]
-fn decimal_len(z: &[u8]) -> usize
-    ensures value { result ≡ spec.decimal_len z.now }
+#[tactic(auto, unfolding(qz_circ::specs::Tokens::decimal_length))]
+fn decimal_length(z: &[u8]) -> usize
+    ensures value { result ≡ spec.decimal_length z.now }
     ensures within { result ≤ length z.now }
 {
     let whole = run(Class::Digit, z);
@@ -95,9 +96,9 @@ fn decimal_len(z: &[u8]) -> usize
 }
 
 // How long the exponent at the front is.
-#[tactic(auto, unfolding(qz_circ::specs::Tokens::exponent_len))]
-fn exponent_len(z: &[u8]) -> usize
-    ensures value { result ≡ spec.exponent_len z.now }
+#[tactic(auto, unfolding(qz_circ::specs::Tokens::exponent_length))]
+fn exponent_length(z: &[u8]) -> usize
+    ensures value { result ≡ spec.exponent_length z.now }
     ensures within { result ≤ length z.now }
 {
     if byte(z, 0) != b'e' && byte(z, 0) != b'E' {
@@ -126,14 +127,14 @@ fn value_of(z: &[u8], count: usize) -> u64
 // The number at the front.
 #[tactic(auto, unfolding(qz_circ::specs::Tokens::number))]
 fn number(place: u64, z: &[u8]) -> Result<Front, LexFault>
-    requires { 0 < spec.decimal_len z.now }
+    requires { 0 < spec.decimal_length z.now }
     ensures value { result ≡ spec.number place z.now }
     ensures part { IsPart result z.now }
 {
     let whole = run(Class::Digit, z);
-    let decimal = decimal_len(z);
+    let decimal = decimal_length(z);
     let (_, behind) = z.split_at(decimal);
-    let n = decimal + exponent_len(behind);
+    let n = decimal + exponent_length(behind);
     if whole < n {
         return Ok((Some(Kind::Real), n));
     }
@@ -220,7 +221,7 @@ fn front(place: u64, z: &[u8]) -> Result<Front, LexFault>
     if b.is_ascii_alphabetic() {
         return word(place, z);
     }
-    if decimal_len(z) > 0 {
+    if decimal_length(z) > 0 {
         return number(place, z);
     }
     if b == b'"' {
@@ -251,7 +252,7 @@ fn add(tokens: &mut Vec<Token>, place: usize, first: Front) -> Result<(), LexFau
 // The tokens of a text, or its leftmost fault, one gap or token after the other.
 fn cut(alloc: Global, bytes: &[u8]) -> Result<Vec<Token>, LexFault>
     requires { length bytes.now < 2 ^ 32 }
-    ensures exact { Gives (λ v. v.items) result (tokens_of bytes.now) }
+    ensures exact { GivesUnless LexFault.Memory (λ v. v.items) result (tokens_of bytes.now) }
     ensures within { IfOk result (λ v. All (IsTokenOf (length bytes.now)) v.items) }
 {
     let mut tokens = Vec::new(alloc);
@@ -274,7 +275,7 @@ fn cut(alloc: Global, bytes: &[u8]) -> Result<Vec<Token>, LexFault>
 pub fn tokens(alloc: Global, bytes: &[u8]) -> Result<Vec<Token>, LexFault>
     requires { length bytes.now < 2 ^ 32 }
     // What is answered is the definition's tokens or its fault, unless memory ran out.
-    ensures exact { Gives (λ v. v.items) result (tokens_of bytes.now) }
+    ensures exact { GivesUnless LexFault.Memory (λ v. v.items) result (tokens_of bytes.now) }
     // Where the definition has a fault, it is answered, unless memory ran out.
     ensures faults { (e : LexFault) → tokens_of bytes.now ≡ Err e → (result ≡ Err e) ⊎ (result ≡ Err LexFault.Memory) }
     // Each token has at least one byte, and all of them in the text.

@@ -119,7 +119,7 @@ fn numerator_of_sum(a: Fraction, b: Fraction) -> (bool, u128)
 
 // Neither is 0, and one of them is a multiple of pi.
 fn cannot_add(a: Fraction, b: Fraction) -> bool
-    ensures { result ≡ (not (spec.is_zero (view a)) && not (spec.is_zero (view b)) && spec.differ a.is_angle b.is_angle) }
+    ensures { result ≡ (not (spec.is_zero (view a)) && not (spec.is_zero (view b)) && spec.is_one_only a.is_angle b.is_angle) }
 {
     !is_zero(a) && !is_zero(b) && a.is_angle != b.is_angle
 }

@@ -1,7 +1,7 @@
 //! The texts of angles.
 ghost use Rattle.std.specs.Prelude.{◌≡◌, ◌<◌, ◌≤◌, ◌++◌, OnOk};
 ghost use Rattle.std.specs.Fmt.{decimal};
-ghost use Rattle.qz_circ.specs.ProgramText.{lowest_terms, multiple_text, divisor_text, part_text, angle_text};
+ghost use Rattle.qz_circ.specs.ProgramText.{lowest_terms, multiple_text, divisor_text, positive_angle_text, angle_text};
 
 use itoa::Buffer;
 use std::alloc::AllocError;
@@ -49,9 +49,9 @@ fn push_divisor(out: &mut Vec<u8>, denominator: u16) -> Result<(), AllocError>
     push_number(out, denominator)
 }
 
-#[tactic(auto, unfolding(qz_circ::specs::ProgramText::part_text))]
+#[tactic(auto, unfolding(qz_circ::specs::ProgramText::positive_angle_text))]
 fn push_part(out: &mut Vec<u8>, m: u16) -> Result<(), AllocError>
-    ensures { OnOk result (out.new.items ≡ out.old.items ++ part_text m) }
+    ensures { OnOk result (out.new.items ≡ out.old.items ++ positive_angle_text m) }
 {
     let (numerator, denominator) = lowest_terms(m);
     push_multiple(out, numerator)?;

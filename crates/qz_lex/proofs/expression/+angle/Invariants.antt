@@ -11,12 +11,12 @@ decreases-unary l = 6 * l.depth
 abbrev pub decreases-operand : goal.decreases-operand
 decreases-operand l = 6 * l.depth + level_rank l.level + 1
 
-abbrev pub decreases-joined : goal.decreases-joined
-decreases-joined l = 6 * l.depth + level_rank l.level + 2
+abbrev pub decreases-with_operators : goal.decreases-with_operators
+decreases-with_operators l = 6 * l.depth + level_rank l.level + 2
 
 abbrev pub decreases-nested : goal.decreases-nested
 decreases-nested l = 6 * l.depth + 5
 
-abbrev pub invariant-joined-loop : goal.invariant-joined-loop
-invariant-joined-loop l =
+abbrev pub invariant-with_operators-loop : goal.invariant-with_operators-loop
+invariant-with_operators-loop l =
     chain (joins_at l.level) (operand_at l.level (unary l.depth l.end-2)) (l.end - l.counter) (meaning_of l.meaning) l.rest ≡ joined_at l.level (unary l.depth l.end-2) l.tokens
