@@ -1,0 +1,5 @@
+pub mod Views
+pub mod Expected
+pub mod FormParts
+pub mod Spelled
+pub mod Stated
