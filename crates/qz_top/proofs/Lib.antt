@@ -1,3 +1,4 @@
 pub mod AnswerLemmas
+pub mod TidyLemmas
 pub mod WordLemmas
 pub mod TextLemmas

@@ -1,12 +1,15 @@
 -- The answer of a command: how it ends and what it writes; and when it is carried out. The answers are a relation, since
 -- every class list of some limits gives one.
-use Rattle.std.specs.Prelude.{◌≡◌, ◌≢◌, ℕ, ◌⊎◌, Bool, IsTrue, List, [], Option}
+use Rattle.std.specs.Prelude.{◌≡◌, ◌≢◌, ℕ, ◌⊎◌, Bool, IsTrue, List, [], Option, Some, None}
 use Rattle.std.specs.Io.KnownBytes.{append_known}
 use Rattle.qz_io.specs.Counts.{Rose}
 use Rattle.qz_io.specs.Told.{HasPart}
+use Rattle.qz_io.specs.Transfers.{Input}
 use Rattle.qz_top.specs.declared.status.Status.{Status}
-use Rattle.qz_top.specs.declared.status.Status.TheVariants.{Ok, Memory, WriteFault}
+use Rattle.qz_top.specs.declared.status.Status.TheVariants.{Ok, Memory, ReadFault, WriteFault}
 use Rattle.qz_top.specs.Status.{IsRefusal}
+
+-- ---- answers
 
 -- the status, and the texts for the output and for the error stream
 pub record Answer : Type 0 where
@@ -18,6 +21,12 @@ pub record Answer : Type 0 where
 abbrev pub status_alone : Status → Answer
 status_alone status = record { status = status; out = []; err = [] }
 
+-- done, with this text for the output
+abbrev pub done : List ℕ → Answer
+done text = record { status = Ok; out = text; err = [] }
+
+-- ---- what a call shows of the outside
+
 -- what a call shows of an output: what it tells and how often it has failed, before and after; whether each fault is answered
 pub record Output : Type 0 where
   pub written_before : Option (List ℕ)
@@ -25,6 +34,26 @@ pub record Output : Type 0 where
   pub faults_before : ℕ
   pub faults_after : ℕ
   pub answers_faults : Bool
+
+-- what a call shows of an output, of which these tell what is written and how often it has failed
+abbrev pub output_of : {S : Type 0} → (S → Option (List ℕ)) → (S → ℕ) → Bool → S → S → Output
+output_of written faults answers_faults before after = record { written_before = written before; written_after = written after; faults_before = faults before; faults_after = faults after; answers_faults = answers_faults }
+
+-- what a call shows of the outside
+pub record Outside : Type 0 where
+  pub input : Input
+  pub out : Output
+
+-- what a command is given by the outside: the bytes that the input has left
+pub record Given : Type 0 where
+  pub input : List ℕ
+
+-- the bytes are those that are told, where they are told
+abbrev pub AreTold : Option (List ℕ) → List ℕ → Type 0
+AreTold None bytes = Unit {0}
+AreTold (Some told) bytes = told ≡ bytes
+
+-- ---- when a command is carried out
 
 -- one of the answers ends well, and what the output tells has grown by its whole text
 pub record Writes (Answers : Answer → Type 0) (out : Output) : Type 0 where
@@ -40,17 +69,24 @@ pub record WritesPart (Answers : Answer → Type 0) (out : Output) : Type 0 wher
   pub done : answer.status ≡ Ok
   pub part : HasPart out.written_before answer.out out.written_after
 
--- a command with these answers ends with this status
-pub record IsCarriedOut (Answers : Answer → Type 0) (status : Status) (out : Output) : Type 0 where
+-- A command with these answers to what it is given ends with this status. Where the outside does not tell what it gives,
+-- the command is carried out as for something that may have been given.
+pub record IsCarriedOut (Answers : Given → Answer → Type 0) (status : Status) (outside : Outside) : Type 0 where
+  pub given : Given
+  pub told : AreTold outside.input.old given.input
   -- it is refused only where that is the answer
-  pub refused : IsRefusal status → Answers (status_alone status)
+  pub refused : IsRefusal status → Answers given (status_alone status)
   -- the whole text is written, or a prefix of it; where memory runs out, perhaps nothing
-  pub ok : status ≡ Ok → Writes Answers out
-  pub write_fault : status ≡ WriteFault → WritesPart Answers out
-  pub memory : status ≡ Memory → (out.written_after ≡ out.written_before) ⊎ WritesPart Answers out
-  -- there is a write fault only where the count of faults rose
-  pub failed : status ≡ WriteFault → Rose out.faults_before out.faults_after
-  -- where it did not rise, the status is that of the answer, or memory ran out
-  pub complete : (answer : Answer) → Answers answer → (Rose out.faults_before out.faults_after → ⊥) → (status ≡ answer.status) ⊎ (status ≡ Memory)
+  pub ok : status ≡ Ok → Writes (Answers given) outside.out
+  pub write_fault : status ≡ WriteFault → WritesPart (Answers given) outside.out
+  pub memory : status ≡ Memory → (outside.out.written_after ≡ outside.out.written_before) ⊎ WritesPart (Answers given) outside.out
+  -- there is a read fault or a write fault only where the input's or the output's count of faults rose
+  pub read_failed : status ≡ ReadFault → Rose outside.input.faults_before outside.input.faults_after
+  pub write_failed : status ≡ WriteFault → Rose outside.out.faults_before outside.out.faults_after
+  -- where the answer is a refusal and the input's count did not rise, it comes, or memory ran out
+  pub refuses : (answer : Answer) → Answers given answer → IsRefusal answer.status → (Rose outside.input.faults_before outside.input.faults_after → ⊥) → (status ≡ answer.status) ⊎ (status ≡ Memory)
+  -- where neither count rose, the status is that of the answer, or memory ran out
+  pub complete : (answer : Answer) → Answers given answer → (Rose outside.input.faults_before outside.input.faults_after → ⊥) → (Rose outside.out.faults_before outside.out.faults_after → ⊥) → (status ≡ answer.status) ⊎ (status ≡ Memory)
   -- where each fault is answered, none is passed over
-  pub answered : IsTrue out.answers_faults → status ≢ WriteFault → out.faults_after ≡ out.faults_before
+  pub read_answered : IsTrue outside.input.answers_faults → status ≢ ReadFault → outside.input.faults_after ≡ outside.input.faults_before
+  pub write_answered : IsTrue outside.out.answers_faults → status ≢ WriteFault → outside.out.faults_after ≡ outside.out.faults_before

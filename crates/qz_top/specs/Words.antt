@@ -1,5 +1,5 @@
 -- What the words of a command ask for.
-use Rattle.std.specs.Prelude.{ℕ, ◌+◌, ◌-◌, ◌*◌, Bool, ◌&&◌, nat_lt, List, [], ◌∷◌, length, fold, codes, if◌then◌else◌, Option, Some, None, Result, Ok, Err}
+use Rattle.std.specs.Prelude.{ℕ, ◌+◌, ◌-◌, ◌*◌, Bool, false, ◌&&◌, nat_lt, List, [], ◌∷◌, length, fold, codes, if◌then◌else◌, Option, Some, None, Result, Ok, Err}
 use Rattle.std.specs.Char.{is_ascii_digit}
 use Rattle.std.specs.List.{list_all}
 use Rattle.std.specs.Str.{bytes_eq}
@@ -10,7 +10,7 @@ use Rattle.qz_circ.specs.declared.fault.Which.TheVariants.{BoundsQubits, BoundsG
 use Rattle.qz_circ.specs.Circuit.{Limits}
 use Rattle.qz_circ.specs.Bounds.{refusal}
 use Rattle.qz_top.specs.declared.words.Command.{Command}
-use Rattle.qz_top.specs.declared.words.Command.TheVariants.{Generate}
+use Rattle.qz_top.specs.declared.words.Command.TheVariants.{Generate, Tidy}
 use Rattle.qz_top.specs.declared.words.WordFault.{WordFault}
 use Rattle.qz_top.specs.declared.words.WordFault.TheVariants.{Usage, Limit}
 
@@ -54,6 +54,11 @@ abbrev pub command_asked : Option Limits → Result Command WordFault
 command_asked None = Err Usage
 command_asked (Some b) = generation b (refusal b)
 
+-- whether the words ask to tidy a program
+unfoldable pub asks_to_tidy : List (List ℕ) → Bool
+asks_to_tidy (command ∷ []) = bytes_eq command (codes "tidy")
+asks_to_tidy words = false
+
 -- the command that the words ask for; or that they are in no written form; or that a number passes this limit
 unfoldable pub command_of : List (List ℕ) → Result Command WordFault
-command_of words = command_asked (asked words)
+command_of words = if asks_to_tidy words then Ok Tidy else command_asked (asked words)

@@ -1,8 +1,9 @@
 //! The command that generates the rules of some bounds.
 ghost use Rattle.std.specs.Prelude.{◌≡◌, ◌≤◌, IfOk};
-ghost use Rattle.qz_top.specs.Answer.{IsCarriedOut};
+ghost use Rattle.qz_io.specs.Transfers.{Input};
+ghost use Rattle.qz_top.specs.Answer.{output_of, IsCarriedOut};
 ghost use Rattle.qz_top.specs.Generate.{Generates, IsCompleteRules, WritesCompleteRules};
-ghost use Rattle.qz_top.specs.Status.{IsRefusal};
+ghost use Rattle.qz_top.specs.Status.{WritesNothing};
 
 use crate::rule_text::print;
 use crate::status::Status;
@@ -23,9 +24,10 @@ fn rules_of(alloc: Global, b: Bounds) -> Result<Vec<u8>, Memory>
 
 // Generates the class list and writes its text to the output.
 pub(crate) fn generate<O: Sink>(alloc: Global, b: Bounds, out: &mut O) -> Status
-    ensures carried_out { IsCarriedOut (Generates b) result
-        (record { written_before = O.written out.old; written_after = O.written out.new; faults_before = O.faults out.old; faults_after = O.faults out.new; answers_faults = O.answers_faults }) }
-    ensures not_refused { IsRefusal result → ⊥ }
+    // Whatever the input is, as long as it has no fault.
+    ensures carried_out { (input : Input) → input.faults_after ≡ input.faults_before → IsCarriedOut (λ given. Generates b) result
+        (record { input = input; out = output_of O.written O.faults O.answers_faults out.old out.new }) }
+    ensures begun { WritesNothing result → ⊥ }
     ensures rules { result ≡ Status.Ok → WritesCompleteRules b (O.written out.old) (O.written out.new) }
     ensures faults { O.faults out.old ≤ O.faults out.new }
     ensures wants { O.wants out.old ≤ O.wants out.new }

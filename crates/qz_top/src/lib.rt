@@ -1,10 +1,11 @@
-//! The commands of quartz: from a list of words to a status and what is written.
+//! The commands of quartz: from a list of words and an input to a status and what is written.
 #![tactic(auto)]
 
 pub mod generate;
 pub mod rule_text;
 pub mod run;
 pub mod status;
+pub mod tidy;
 pub mod words;
 mod writing;
 

@@ -1,7 +1,7 @@
 //! How a command ends.
 ghost use Rattle.std.specs.Prelude.{◌≡◌};
 
-use qz_circ::Which;
+use qz_circ::{QasmFault, Which};
 
 /// How a command ends.
 #[derive(Clone, Copy, Debug, PartialEq, Eq)]
@@ -12,8 +12,12 @@ pub enum Status {
     Memory,
     /// The words are in no written form.
     Usage,
-    /// A number passes this limit.
+    /// A number, the input or its program passes this limit.
     Limit(Which),
+    /// The input is no program: its first fault, which is neither a limit nor want of memory.
+    Qasm(QasmFault),
+    /// Reading the input failed.
+    ReadFault,
     /// Writing failed.
     WriteFault,
 }
@@ -30,6 +34,8 @@ impl Status {
             Status::Memory => 1,
             Status::Usage => 2,
             Status::Limit(_) => 3,
+            Status::Qasm(_) => 4,
+            Status::ReadFault => 8,
             Status::WriteFault => 9,
         }
     }

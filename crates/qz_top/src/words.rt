@@ -2,7 +2,7 @@
 ghost use Rattle.std.specs.Prelude.{◌≡◌, map, string_bytes};
 ghost use Rattle.std.specs.Option.{option_map};
 ghost use Rattle.qz_circ.specs.Bounds.{refusal};
-ghost use Rattle.qz_top.specs.Words.{number_of, limits_of, which_of, asked, generation, command_of};
+ghost use Rattle.qz_top.specs.Words.{number_of, limits_of, which_of, asked, generation, asks_to_tidy, command_of};
 
 use qz_circ::{Bounds, LimitFault, Which};
 
@@ -11,6 +11,8 @@ use qz_circ::{Bounds, LimitFault, Which};
 pub enum Command {
     /// To generate the rules of these bounds.
     Generate { bounds: Bounds },
+    /// To write the canonical text of the program that the input is.
+    Tidy,
 }
 
 /// Why words are no command that can be carried out.
@@ -63,7 +65,7 @@ fn three_numbers(n: &str, q: &str, m: &str) -> Option<(u64, u64, u64)>
     Some((number(n)?, number(q)?, number(m)?))
 }
 
-// The three numbers of the one written form.
+// The three numbers of the form that asks for a generation.
 #[tactic(auto, unfolding(crate::specs::Words::asked))]
 fn asked_numbers(words: &[String]) -> Option<(u64, u64, u64)>
     ensures { asked (map string_bytes words.now) ≡ option_map (λ t. record { n = t.0; q = t.1; m = t.2 }) result }
@@ -88,11 +90,25 @@ fn generation_within(n: u64, q: u64, m: u64) -> Result<Command, WordFault>
     }
 }
 
+// Whether the words ask to tidy a program.
+#[tactic(auto, unfolding(crate::specs::Words::asks_to_tidy))]
+fn asks_to_tidy(words: &[String]) -> bool
+    ensures { result ≡ asks_to_tidy (map string_bytes words.now) }
+{
+    let [command] = words else {
+        return false;
+    };
+    command.as_str() == "tidy"
+}
+
 /// What the words ask for. Takes no memory.
 #[tactic(auto, unfolding(crate::specs::Words::command_of))]
 pub fn read_words(words: &[String]) -> Result<Command, WordFault>
     ensures { result ≡ command_of (map string_bytes words.now) }
 {
+    if asks_to_tidy(words) {
+        return Ok(Command::Tidy);
+    }
     let Some((n, q, m)) = asked_numbers(words) else {
         return Err(WordFault::Usage);
     };

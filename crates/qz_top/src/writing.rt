@@ -3,14 +3,14 @@ ghost use Rattle.std.specs.Prelude.{◌≡◌, ◌≢◌, ◌≤◌, IsTrue};
 ghost use Rattle.std.specs.Io.KnownBytes.{append_known};
 ghost use Rattle.qz_io.specs.Counts.{Rose};
 ghost use Rattle.qz_io.specs.Told.{HasPart};
-ghost use Rattle.qz_top.specs.Status.{IsRefusal};
+ghost use Rattle.qz_top.specs.Status.{WritesNothing};
 
 use crate::status::Status;
 use qz_io::{IoFault, Sink, deliver};
 
 // Writes the whole text.
 pub(crate) fn write_text<O: Sink>(text: &[u8], out: &mut O) -> Status
-    ensures not_refused { IsRefusal result → ⊥ }
+    ensures begun { WritesNothing result → ⊥ }
     ensures ok { result ≡ Status.Ok → O.written out.new ≡ append_known (O.written out.old) text.now }
     ensures part { result ≢ Status.Ok → HasPart (O.written out.old) text.now (O.written out.new) }
     ensures failed { result ≡ Status.WriteFault → Rose (O.faults out.old) (O.faults out.new) }

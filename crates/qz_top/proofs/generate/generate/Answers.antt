@@ -1,19 +1,28 @@
-use Rattle.std.proofs.Common.{◌∙◌, List, [], ℕ, refl, subst, ap}
+use Rattle.std.proofs.Common.{◌∙◌, List, ℕ, refl, subst, ap}
 use Rattle.std.specs.Io.KnownBytes.{append_known}
 use Rattle.qz_io.specs.Told.{HasPart}
-use Rattle.qz_top.specs.declared.status.Status.TheVariants as status
 use Rattle.qz_top.specs.Generate.{Generates}
-use Rattle.qz_top.proofs.AnswerLemmas.{carried_by_text}
+use Rattle.qz_top.proofs.AnswerLemmas.{some_given, memory_ends, carried_by_text}
 use Rattle.qz_top.proofs.generate.generate.Goals as goal
 
 pub returns-clause-carried_out : goal.returns-clause-carried_out
-returns-clause-carried_out g c =
+returns-clause-carried_out g c = λ input calm.
+    let given = some_given input.old in
     let rules = c.in-Ok.ensures in
-    carried_by_text (Generates c.args.b) (record { status = status.Ok; out = c.in-Ok.text.items; err = [] }) _ _
-    (record { classes = rules.classes; class_list = rules.class_list; done = refl; out = rules.text_is; err = refl })
-    refl
-    (λ a h. h.done)
-    c.write_text.ensures.not_refused
+    carried_by_text (λ _. Generates c.args.b) c.in-Ok.text.items _ _
+    (record {
+      given = given.0;
+      told = given.1;
+      is_answer = record { classes = rules.classes; class_list = rules.class_list; done = refl; out = rules.text_is; err = refl };
+      well = λ a h. h.done;
+      answered = λ _. calm;
+    })
+    c.write_text.ensures.begun
     (λ e. c.write_text.ensures.ok e ∙ ap (append_known (g.O.Sink.written c.args.out.now)) c.deref.ensures.value)
     (λ k. subst (λ (text : List ℕ). HasPart (g.O.Sink.written c.args.out.now) text (g.O.Sink.written c.write_text.new.out)) c.deref.ensures.value (c.write_text.ensures.part k))
     c.write_text.ensures.failed c.write_text.ensures.answered
+
+pub returns-in_default-clause-carried_out : goal.returns-in_default-clause-carried_out
+returns-in_default-clause-carried_out g c = λ input calm.
+    let given = some_given input.old in
+    (memory_ends (λ _. Generates c.args.b) input given.0 given.1 (λ _. calm)).carried_out _ refl refl

@@ -1,6 +1,10 @@
-use Rattle.std.proofs.Common.{map, string_bytes}
-use Rattle.qz_top.proofs.AnswerLemmas.{words_carried}
+use Rattle.std.proofs.Common.{map, string_bytes, refl}
+use Rattle.qz_top.proofs.AnswerLemmas.{words_carried, words_refused}
 use Rattle.qz_top.proofs.run.run_solo.Goals as goal
 
 pub returns-in-Ok-clause-carried_out : goal.returns-in-Ok-clause-carried_out
 returns-in-Ok-clause-carried_out g c = words_carried (map string_bytes c.args.words.now) c.in-Ok.command _ _ c.in-Ok.ensures c.carry_out.ensures.carried_out
+
+pub returns-in-Err-clause-carried_out : goal.returns-in-Err-clause-carried_out
+returns-in-Err-clause-carried_out g c =
+    rw c.status_of_words.ensures ((words_refused (map string_bytes c.args.words.now) c.in-Err.fault _ c.in-Err.ensures refl).carried_out _ refl refl)
