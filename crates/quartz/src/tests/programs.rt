@@ -79,7 +79,8 @@ fn is_text(found: Result<Vec<u8>, Memory>, wanted: &[u8]) -> bool {
     }
 }
 
-fn measured_lines() -> &'static [u8] {
+// The canonical text of H on the first qubit and a doubly controlled NOT of the third.
+pub(super) fn measured_lines() -> &'static [u8] {
     b"OPENQASM 2.0;\n\
 include \"qelib1.inc\";\n\
 qreg q[2];\n\
