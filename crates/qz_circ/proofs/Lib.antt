@@ -21,3 +21,4 @@ pub mod PathCounts
 pub mod MoreParameters
 pub mod JoinedTexts
 pub mod ProgramNames
+pub mod ProgramOrder

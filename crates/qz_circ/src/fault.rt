@@ -115,3 +115,17 @@ pub enum QasmFault {
     /// Memory ran out.
     Memory,
 }
+
+/// Why a text is no rule file: the first fault. A place is that of a byte, counted from 0.
+#[derive(Clone, Copy, Debug, PartialEq, Eq)]
+pub enum RuleFault {
+    /// The longest front of the text with which some rule file begins ends here. Before the first two lines are whole these
+    /// may have any numbers of one to nine digits; after them the file has their bounds.
+    Syntax { place: u64 },
+    /// The bounds in the second line are refused.
+    Limit(LimitFault),
+    /// This member, the first such one, isn't equivalent to the first member of its class. Both are counted from 1.
+    Unsound { class: u64, member: u64 },
+    /// Memory ran out.
+    Memory,
+}

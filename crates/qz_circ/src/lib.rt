@@ -3,6 +3,7 @@
 //! angles, grammar and texts.
 #![tactic(auto)]
 
+pub mod binding;
 pub mod bound;
 pub mod circuit;
 pub mod class_list;
@@ -15,14 +16,17 @@ pub mod ranks;
 pub mod report;
 pub mod step_count;
 pub mod token;
+pub mod worked_places;
 pub mod worked_programs;
+pub mod worked_searches;
 pub mod worked_texts;
 pub mod worked_values;
 
+pub use binding::Binding;
 pub use bound::Bounds;
 pub use circuit::{Expr, Inst, Op};
 pub use class_list::Classes;
-pub use fault::{AngleFault, LexFault, LimitFault, Memory, QasmFault, Which};
+pub use fault::{AngleFault, LexFault, LimitFault, Memory, QasmFault, RuleFault, Which};
 pub use gate_name::GateName;
 pub use order::{prec, prec_insts};
 pub use program::{Arg, Args, Program, Register, Tail};

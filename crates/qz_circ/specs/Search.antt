@@ -1,0 +1,100 @@
+-- The search for a cheaper circuit, by rounds, over the children of a circuit; and what a complete search reaches.
+use Rattle.std.specs.Prelude.{◌≡◌, ℕ, zero, suc, ◌+◌, ◌*◌, ◌≤◌, nat_le, Bool, not, ◌&&◌, cond, List, [], ◌∷◌, ◌++◌, length, take, drop, Contains}
+use Rattle.std.specs.List.{filter, flat_map, list_any}
+use Rattle.std.specs.Ordering.{is_lt, eq_by_cmp}
+use Rattle.qz_circ.specs.ProgramCircuits.{ProgramCircuit, cost, program_cmp}
+use Rattle.qz_circ.specs.Queue.{different, firsts}
+
+-- how many rounds there are, how many circuits each takes, how many the queue holds at most, and how much more than the
+-- best circuit a child may cost
+pub record PlanNumbers : Type 0 where
+  pub rounds : ℕ
+  pub batch : ℕ
+  pub cap : ℕ
+  pub slack : ℕ
+
+-- the numbers are within the limits
+pub record IsPlan (p : PlanNumbers) : Type 0 where
+  pub some_taken : 1 ≤ p.batch
+  pub few_taken : p.batch ≤ 64
+  pub some_held : 1 ≤ p.cap
+  pub few_held : p.cap ≤ 500
+  pub few_rounds : p.rounds * p.batch ≤ 4096
+  pub near : p.slack ≤ 4
+
+-- the circuits that were taken, those that wait in the queue, and the best one so far
+pub record SearchState : Type 0 where
+  pub seen : List ProgramCircuit
+  pub queue : List ProgramCircuit
+  pub best : ProgramCircuit
+
+-- the circuit is one of these
+abbrev pub is_among : List ProgramCircuit → ProgramCircuit → Bool
+is_among cs c = list_any (eq_by_cmp program_cmp c) cs
+
+-- the earliest of a circuit and these
+abbrev pub earliest : ProgramCircuit → List ProgramCircuit → ProgramCircuit
+earliest best [] = best
+earliest best (c ∷ cs) = earliest (cond (is_lt (program_cmp c best)) c best) cs
+
+-- a child is offered where it wasn't taken and costs at most the slack more than the best circuit
+abbrev pub is_offered : PlanNumbers → List ProgramCircuit → ProgramCircuit → ProgramCircuit → Bool
+is_offered plan seen best c = not (is_among seen c) && nat_le (cost c) (cost best + plan.slack)
+
+-- at the start nothing was taken, and the circuit itself waits and is the best one
+abbrev pub start : ProgramCircuit → SearchState
+start c = record { seen = []; queue = c ∷ []; best = c }
+
+module _ (children : ProgramCircuit → List ProgramCircuit) (plan : PlanNumbers) where
+  -- the circuits that a round takes: the first of the queue
+  abbrev pub taken : SearchState → List ProgramCircuit
+  taken s = take plan.batch s.queue
+
+  -- the taken ones after a round
+  abbrev pub seen_next : SearchState → List ProgramCircuit
+  seen_next s = s.seen ++ taken s
+
+  -- the children that a round offers, of the circuits that it takes
+  unfoldable pub offered : SearchState → List ProgramCircuit
+  offered s = filter (is_offered plan (seen_next s) s.best) (flat_map children (taken s))
+
+  -- what a round chooses the new queue from: the rest of the queue and the offered children
+  unfoldable pub choice : SearchState → List ProgramCircuit
+  choice s = drop plan.batch s.queue ++ offered s
+
+  -- the new queue: the first of the different ones
+  abbrev pub queue_next : SearchState → List ProgramCircuit
+  queue_next s = firsts plan.cap (choice s)
+
+  -- one round
+  abbrev pub round : SearchState → SearchState
+  round s = record { seen = seen_next s; queue = queue_next s; best = earliest s.best (queue_next s) }
+
+  -- so many rounds; one that finds the queue empty changes nothing, so that the search may end there
+  abbrev pub after : ℕ → SearchState → SearchState
+  after zero s = s
+  after (suc n) s = after n (round s)
+
+  -- the circuit that the search gives: the best one after all rounds
+  unfoldable pub best_found : ProgramCircuit → ProgramCircuit
+  best_found c = (after plan.rounds (start c)).best
+
+  -- in so many rounds, each has at most as many different circuits to choose from as the queue holds
+  abbrev pub DropsNothing : ℕ → SearchState → Type 0
+  DropsNothing zero s = Unit {0}
+  DropsNothing (suc n) s = (length (different program_cmp (choice s)) ≤ plan.cap) × DropsNothing n (round s)
+
+  -- the search is complete: its queue is empty at the end, and no round had to drop a circuit
+  pub record IsComplete (c : ProgramCircuit) : Type 0 where
+    pub ends : (after plan.rounds (start c)).queue ≡ []
+    pub drops_nothing : DropsNothing plan.rounds (start c)
+
+module _ (children : ProgramCircuit → List ProgramCircuit) (k : ℕ) where
+  -- from the first circuit through these to the last: each next one is a child of the one before, and costs at most k
+  abbrev pub IsChain : ProgramCircuit → List ProgramCircuit → ProgramCircuit → Type 0
+  IsChain c [] x = c ≡ x
+  IsChain c (d ∷ ds) x = Contains (children c) d × (cost d ≤ k) × IsChain d ds x
+
+  -- some circuits lead from the first to the last
+  abbrev pub IsReached : ProgramCircuit → ProgramCircuit → Type 0
+  IsReached c x = (ds : List ProgramCircuit) × IsChain c ds x
