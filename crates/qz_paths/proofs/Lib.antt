@@ -2,6 +2,7 @@ pub mod Equivalences
 pub mod Members
 pub mod Runs
 pub mod Congruence
+pub mod Commuting
 pub mod Parts
 pub mod Least
 pub mod Chains

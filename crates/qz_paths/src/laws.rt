@@ -1,13 +1,17 @@
 //! Laws of equivalence and of class lists, each the contract of a function with an empty body.
-ghost use Rattle.std.specs.Prelude.{◌≡◌, ℕ, ◌<◌, List, ◌++◌, ◌+ℤ◌};
+ghost use Rattle.std.specs.Prelude.{◌≡◌, ℕ, ◌<◌, false, List, [], ◌∷◌, ◌++◌, ◌+ℤ◌};
 ghost use Rattle.std.specs.List.{AllByRecursion};
+ghost use Rattle.qz_circ.specs.declared.circuit.Inst.{Inst};
+ghost use Rattle.qz_circ.specs.declared.circuit.Op.{Op};
 ghost use Rattle.qz_circ.specs.Bounds.{IsLawful};
 ghost use Rattle.qz_circ.specs.Circuit.{Circuit, Limits, ActsBelow};
 ghost use Rattle.qz_circ.specs.Classes.{IsRepresentative, IsKept, IsClassList, HasEquivalentMembers};
 ghost use Rattle.qz_circ.specs.Equivalence.{Equivalent};
 ghost use Rattle.qz_circ.specs.Exponent.{Exponent, IsExponent};
 ghost use Rattle.qz_circ.specs.Paths.{Path, paths, count, root2};
+ghost use Rattle.qz_circ.specs.Gathering.{shares};
 ghost use Rattle.qz_circ.specs.Joined.{JoinsEquivalent};
+ghost use Rattle.qz_circ.specs.Places.{rule_shares};
 ghost use Rattle.qz_circ.specs.ProgramCircuits.{ProgramCircuit, IsProgramGate, program_paths, EquivalentProgramCircuits};
 
 /// A circuit is equivalent to itself, of a rule and of a program.
@@ -40,6 +44,13 @@ pub fn root2_twice_doubles()
 pub fn equivalence_stays_with_gates_around()
     ensures rules { (q : ℕ) (front back a c : Circuit) → AllByRecursion (ActsBelow q) front → AllByRecursion (ActsBelow q) back → AllByRecursion (ActsBelow q) a → AllByRecursion (ActsBelow q) c → Equivalent q a c → Equivalent q (front ++ a ++ back) (front ++ c ++ back) }
     ensures programs { (q : ℕ) (front back a c : ProgramCircuit) → AllByRecursion (IsProgramGate q) front → AllByRecursion (IsProgramGate q) back → AllByRecursion (IsProgramGate q) a → AllByRecursion (IsProgramGate q) c → EquivalentProgramCircuits q a c → EquivalentProgramCircuits q (front ++ a ++ back) (front ++ c ++ back) }
+{}
+
+/// Two gates without a common qubit may change places, of a rule and of a program.
+#[tactic(auto, using(crate::proofs::Commuting::rules_commute, crate::proofs::Commuting::programs_commute))]
+pub fn gates_without_a_common_qubit_commute()
+    ensures rules { (q : ℕ) (f g : Op) → ActsBelow q f → ActsBelow q g → rule_shares f g ≡ false → Equivalent q (f ∷ g ∷ []) (g ∷ f ∷ []) }
+    ensures programs { (q : ℕ) (f g : Inst) → IsProgramGate q f → IsProgramGate q g → shares f g ≡ false → EquivalentProgramCircuits q (f ∷ g ∷ []) (g ∷ f ∷ []) }
 {}
 
 /// Each contiguous part of a representative is a representative.
