@@ -36,17 +36,20 @@ fn same_in_order(x: &Matrix, y: &Matrix) -> Result<bool, qz_ring::Memory>
     Ok(same)
 }
 
-// Whether the circuits are equivalent, or the want of memory.
-fn same_circuits(alloc: Global, a: &[Op], c: &[Op], q: u64) -> Result<bool, Memory>
-    requires qubits { (1 ≤ q) × (q ≤ 3) }
-    requires first { IsOn q 3 a.now }
-    requires second { IsOn q 3 c.now }
-    requires short { length a.now + length c.now ≤ 100 }
-    ensures exact { IfOk result (λ same. IsTrue same ↔ Equivalent q a.now c.now) }
+/// Whether the circuits that two matrices on the same qubits stand for are equivalent, up to a phase that may hold
+/// parameters. They have at most 100 gates together. Counts one step, also where memory runs out.
+pub fn decide_matrices<L: Ledger>(
+    x: &Matrix,
+    y: &Matrix,
+    steps: &mut Steps<L>,
+) -> Result<bool, Memory>
+    requires qubits { y.now.q ≡ x.now.q }
+    requires few { x.now.gates + y.now.gates ≤ 100 }
+    ensures exact { IfOk result (λ same. (a c : Circuit) → StandsFor x.now a → StandsFor y.now c → (IsTrue same ↔ Equivalent x.now.q a c)) }
+    ensures ticks { steps.new ≡ steps.old + 1 }
 {
-    let first = Matrix::of(alloc, a, q)?;
-    let second = Matrix::of(alloc, c, q)?;
-    match same_in_order(&first, &second) {
+    steps.tick();
+    match same_in_order(x, y) {
         Ok(same) => Ok(same),
         Err(_) => Err(Memory),
     }
@@ -69,7 +72,13 @@ pub fn decide<L: Ledger>(
     ensures exact { IfOk result (λ same. IsTrue same ↔ Equivalent q a.now c.now) }
     ensures ticks { steps.new ≡ steps.old + 1 }
 {
-    steps.tick();
-    let same = same_circuits(alloc, a, c, q)?;
-    Ok(same)
+    let Ok(first) = Matrix::of(alloc, a, q) else {
+        steps.tick();
+        return Err(Memory);
+    };
+    let Ok(second) = Matrix::of(alloc, c, q) else {
+        steps.tick();
+        return Err(Memory);
+    };
+    decide_matrices(&first, &second, steps)
 }
