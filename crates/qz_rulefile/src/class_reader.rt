@@ -1,0 +1,139 @@
+//! Reading classes into one list of ranks.
+ghost use Rattle.std.specs.Prelude.{◌≡◌, ◌∷◌, [], ◌<◌, map, length};
+ghost use Rattle.qz_circ.specs.FirstFault.{Gives};
+ghost use Rattle.qz_rulefile.specs.Flat.{Tells, folded_at, one_more, class_onto, with_class};
+ghost use Rattle.qz_rulefile.specs.Reading as reading;
+
+use crate::faults::ReadError;
+use crate::gate_texts::GateTexts;
+use crate::parts::{number, word};
+use qz_circ::Bounds;
+use std::alloc::Global;
+
+// The head of a file: its bounds, lawful or not.
+#[derive(Clone, Copy)]
+pub(crate) struct Head {
+    pub(crate) n: u64,
+    pub(crate) q: u64,
+    pub(crate) m: u64,
+}
+
+// What stands before the numbers of the second line.
+#[tactic(auto, unfolding(crate::specs::Reading::head_word))]
+fn first_words(bytes: &[u8]) -> Result<&[u8], usize>
+    ensures { Gives (λ rest. (0, rest.now)) result (reading.one_of_at (reading.head_word ∷ []) bytes.now) }
+{
+    word(b"quartz-rules 1\nbounds ", bytes)
+}
+
+// The first two lines.
+#[tactic(auto, unfolding(crate::specs::Reading::head_at))]
+pub(crate) fn read_head(bytes: &[u8]) -> Result<(Head, &[u8]), usize>
+    ensures { Gives (λ x. (record { n = x.0.n; q = x.0.q; m = x.0.m }, x.1.now)) result (reading.head_at bytes.now) }
+{
+    let rest = first_words(bytes)?;
+    let (n, rest) = number(b' ', 0, rest)?;
+    let (q, rest) = number(b' ', 0, rest)?;
+    let (m, rest) = number(b'\n', 0, rest)?;
+    Ok((Head { n, q, m }, rest))
+}
+
+// A word and a number no less than low, on a line of their own.
+#[tactic(auto, unfolding(crate::specs::Reading::count_at))]
+fn count<'a>(letters: &[u8], low: u64, bytes: &'a [u8]) -> Result<(u64, &'a [u8]), usize>
+    ensures { Gives (λ x. (x.0, x.1.now)) result (reading.count_at letters.now low bytes.now) }
+{
+    let rest = word(letters, bytes)?;
+    let (n, rest) = number(b'\n', low, rest)?;
+    Ok((n, rest))
+}
+
+// The line with the number of members of a class.
+#[tactic(auto, unfolding(crate::specs::Reading::class_word))]
+fn class_count(bytes: &[u8]) -> Result<(u64, &[u8]), usize>
+    ensures { Gives (λ x. (x.0, x.1.now)) result (reading.count_at reading.class_word 2 bytes.now) }
+{
+    count(b"class ", 2, bytes)
+}
+
+// The line with the number of classes.
+#[tactic(auto, unfolding(crate::specs::Reading::classes_word))]
+pub(crate) fn classes_count(bytes: &[u8]) -> Result<(u64, &[u8]), usize>
+    ensures { Gives (λ x. (x.0, x.1.now)) result (reading.count_at reading.classes_word 0 bytes.now) }
+{
+    count(b"classes ", 0, bytes)
+}
+
+// The last line.
+#[tactic(auto, unfolding(crate::specs::Reading::end_word))]
+pub(crate) fn end(bytes: &[u8]) -> Result<&[u8], usize>
+    ensures { Gives (λ rest. (0, rest.now)) result (reading.one_of_at (reading.end_word ∷ []) bytes.now) }
+{
+    word(b"end\n", bytes)
+}
+
+// Appends the ranks of so many members.
+fn members<'a>(
+    texts: &GateTexts,
+    ranks: &mut Vec<u32>,
+    count: u64,
+    bytes: &'a [u8],
+) -> Result<&'a [u8], ReadError>
+    ensures { Tells (λ rest. (ranks.new.items, rest.now)) result (folded_at one_more ranks.old.items (reading.member_at texts.now.bounds) count bytes.now) }
+{
+    let mut rest = bytes;
+    for _ in 0..count {
+        let (r, behind) = match texts.member(rest) {
+            Ok(member) => member,
+            Err(n) => return Err(ReadError::Left(n)),
+        };
+        if ranks.push(r as u32).is_err() {
+            return Err(ReadError::Memory);
+        }
+        rest = behind;
+    }
+    Ok(rest)
+}
+
+// Appends the ranks of a class, and where it ends.
+fn class<'a>(
+    texts: &GateTexts,
+    ranks: &mut Vec<u32>,
+    ends: &mut Vec<usize>,
+    bytes: &'a [u8],
+) -> Result<&'a [u8], ReadError>
+    ensures { Tells (λ rest. (record { members = ranks.new.items; ends = ends.new.items }, rest.now)) result (class_onto (record { members = ranks.old.items; ends = ends.old.items }) (reading.class_at texts.now.bounds bytes.now)) }
+{
+    let (count, rest) = match class_count(bytes) {
+        Ok(count) => count,
+        Err(n) => return Err(ReadError::Left(n)),
+    };
+    let rest = match members(texts, ranks, count, rest) {
+        Ok(rest) => rest,
+        Err(fault) => return Err(fault),
+    };
+    if ends.push(ranks.len()).is_err() {
+        return Err(ReadError::Memory);
+    }
+    Ok(rest)
+}
+
+// Appends the classes, so many.
+pub(crate) fn classes<'a>(
+    texts: &GateTexts,
+    ranks: &mut Vec<u32>,
+    ends: &mut Vec<usize>,
+    count: u64,
+    bytes: &'a [u8],
+) -> Result<&'a [u8], ReadError>
+    ensures { Tells (λ rest. (record { members = ranks.new.items; ends = ends.new.items }, rest.now)) result (folded_at with_class (record { members = ranks.old.items; ends = ends.old.items }) (reading.class_at texts.now.bounds) count bytes.now) }
+{
+    let mut rest = bytes;
+    for _ in 0..count {
+        rest = match class(texts, ranks, ends, rest) {
+            Ok(behind) => behind,
+            Err(fault) => return Err(fault),
+        };
+    }
+    Ok(rest)
+}
