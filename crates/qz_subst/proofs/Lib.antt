@@ -1,0 +1,7 @@
+pub mod Split
+pub mod Placed
+pub mod Weights
+pub mod Turns
+pub mod MovedWays
+pub mod InstanceGates
+pub mod EquivalentInstances

@@ -1,0 +1,8 @@
+use Rattle.std.proofs.Common.{◌≡◌, ◌≤◌, take, length}
+use Rattle.std.specs.List.{flat_map}
+use Rattle.qz_circ.specs.Instances.{qubit_of, param_of, instance_gate}
+use Rattle.qz_subst.proofs.substitution.instance_len.Given as goal
+
+abbrev pub invariant-loop-f : goal.invariant-loop-f
+invariant-loop-f l =
+    (l.n ≡ length (flat_map (instance_gate (qubit_of l.bind) (param_of l.bind)) (take l.f-index l.c))) × (l.n ≤ l.f-index)

@@ -1,0 +1,7 @@
+//! Instances of the circuits of rules in programs, and the law that those of equivalent circuits are equivalent.
+#![tactic(auto)]
+
+pub mod laws;
+pub mod substitution;
+
+pub use substitution::{instance, instance_len};
