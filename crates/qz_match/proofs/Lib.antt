@@ -1,0 +1,13 @@
+pub mod Bindings
+pub mod Tests
+pub mod Tables
+pub mod Connection
+pub mod Walks
+pub mod BindingSteps
+pub mod Gaps
+pub mod Flagged
+pub mod GatherSteps
+pub mod Matching
+pub mod Starts
+pub mod Candidates
+pub mod UsableRules

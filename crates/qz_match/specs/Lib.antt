@@ -1,0 +1,5 @@
+pub mod Neighbours
+pub mod Walks
+pub mod Starts
+pub mod Flags
+pub mod Occurring

@@ -1,0 +1,195 @@
+//! The places of a left side, by their first positions.
+ghost use Rattle.std.specs.Prelude.{◌≡◌, ◌≢◌, ◌+◌, ◌<◌, ◌≤◌, false, [], ◌∷◌, ◌++◌, length, take, Option, Some, None, IfOk, OnOk, if◌then◌else◌};
+ghost use Rattle.std.specs.List.{AllByRecursion, flat_map};
+ghost use Rattle.std.specs.Option.{option_to_list};
+ghost use Rattle.qz_circ.specs.Circuit.{ActsBelow, HasBelow, IsOn, below};
+ghost use Rattle.qz_circ.specs.ProgramCircuits.{IsProgramGate};
+ghost use Rattle.qz_circ.specs.Places.{bind_gate, bind_angle, nothing_bound, all_places, places};
+ghost use Rattle.qz_match.specs.Neighbours.{AreLinksOf};
+ghost use Rattle.qz_match.specs.Walks.{IsWalk};
+ghost use Rattle.qz_match.specs.Starts.{is_alike, rises, tested, starting, AreOnly};
+
+use crate::bind::bound_at;
+use crate::gather::gather_at;
+use crate::neighbours::Neighbours;
+use crate::place::Place;
+use crate::walk::Walk;
+use qz_circ::{Expr, Inst, Memory, Op};
+use std::alloc::Global;
+
+// The angle of a first rotation may have the value k.
+#[inline(always)]
+fn may_have(e: Expr, k: u16) -> bool
+    ensures { result ≡ false → bind_angle nothing_bound.params e k ≡ None }
+{
+    match e {
+        Expr::Const(t) => 64 * u16::from(t) % 512 == k,
+        Expr::Plus(_) | Expr::Minus(_) | Expr::Sum(_, _) => true,
+    }
+}
+
+// A left side that begins with the gate f may have g as its first gate.
+#[inline(always)]
+fn may_begin(f: Op, g: Inst) -> bool
+    ensures { result ≡ false → bind_gate nothing_bound f g ≡ None }
+{
+    match (f, g) {
+        (Op::H(_), Inst::H(_)) | (Op::X(_), Inst::X(_)) | (Op::Cx(_, _), Inst::Cx(_, _)) => true,
+        (Op::Rz(_, e), Inst::Rz(_, k)) => may_have(e, k),
+        _ => false,
+    }
+}
+
+// The gates are of one kind.
+fn are_alike(f: Op, g: Inst) -> bool
+    ensures { result ≡ is_alike f g }
+{
+    match (f, g) {
+        (Op::H(_), Inst::H(_)) | (Op::X(_), Inst::X(_)) => true,
+        (Op::Cx(_, _), Inst::Cx(_, _)) | (Op::Rz(_, _), Inst::Rz(_, _)) => true,
+        _ => false,
+    }
+}
+
+// The only positions from p on at which the left side may stand, found along the qubits from its first gate.
+fn candidate(
+    left: &[Op],
+    c: &[Inst],
+    walk: &Walk,
+    neighbours: &Neighbours,
+    p: usize,
+) -> Option<[usize; 6]>
+    requires short { length left.now ≤ 6 }
+    requires some { 0 < length left.now }
+    requires on { IsOn 3 3 left.now }
+    requires lawful { AllByRecursion (IsProgramGate 64) c.now }
+    requires walk { IsWalk left.now walk.now }
+    requires links { AreLinksOf c.now neighbours.now }
+    requires within { p < length c.now }
+    ensures { AreOnly left.now c.now p result }
+{
+    let mut found = [p; 6];
+    let steps = walk.steps();
+    for step in steps {
+        let next = neighbours.beside(found[step.from], step.operand, step.forward)?;
+        if next >= c.len() {
+            return None;
+        }
+        if !are_alike(left[step.to], c[next]) {
+            return None;
+        }
+        found[step.to] = next;
+    }
+    Some(found)
+}
+
+// The positions rise and are below m.
+fn are_rising(positions: &[usize], m: usize) -> bool
+    ensures { result ≡ rises 0 m positions.now }
+{
+    let mut low = 0;
+    for p in positions {
+        if *p < low {
+            return false;
+        }
+        if *p >= m {
+            return false;
+        }
+        low = *p + 1;
+    }
+    true
+}
+
+// The place at the first positions, if they are one.
+fn tested_at(left: &[Op], c: &[Inst], found: &[usize; 6]) -> Option<Place>
+    requires short { length left.now ≤ 6 }
+    requires some { 0 < length left.now }
+    requires on { IsOn 3 3 left.now }
+    requires lawful { AllByRecursion (IsProgramGate 64) c.now }
+    ensures { result ≡ tested left.now c.now (take (length left.now) found.now) }
+{
+    let count = left.len();
+    if !are_rising(&found[..count], c.len()) {
+        return None;
+    }
+    let binding = bound_at(left, c, found)?;
+    if !gather_at(c, found, count) {
+        return None;
+    }
+    Some(Place::new(found, count, binding))
+}
+
+// The place that begins at p, if there is one.
+#[inline(never)]
+fn place_from(
+    left: &[Op],
+    c: &[Inst],
+    walk: &Walk,
+    neighbours: &Neighbours,
+    p: usize,
+) -> Option<Place>
+    requires short { length left.now ≤ 6 }
+    requires some { 0 < length left.now }
+    requires on { IsOn 3 3 left.now }
+    requires lawful { AllByRecursion (IsProgramGate 64) c.now }
+    requires walk { IsWalk left.now walk.now }
+    requires links { AreLinksOf c.now neighbours.now }
+    requires within { p < length c.now }
+    ensures { option_to_list result ≡ starting left.now c.now p }
+{
+    let found = candidate(left, c, walk, neighbours, p)?;
+    tested_at(left, c, &found)
+}
+
+// Adds the place that begins at p, if there is one. Most gates are no first gate of the left side, so this is tested before all
+// else.
+#[inline(always)]
+fn add_from(
+    found: &mut Vec<Place>,
+    left: &[Op],
+    c: &[Inst],
+    walk: &Walk,
+    neighbours: &Neighbours,
+    p: usize,
+) -> Result<(), Memory>
+    requires short { length left.now ≤ 6 }
+    requires some { 0 < length left.now }
+    requires on { IsOn 3 3 left.now }
+    requires lawful { AllByRecursion (IsProgramGate 64) c.now }
+    requires walk { IsWalk left.now walk.now }
+    requires links { AreLinksOf c.now neighbours.now }
+    requires within { p < length c.now }
+    ensures { OnOk result (found.new.items ≡ found.old.items ++ starting left.now c.now p) }
+{
+    if !may_begin(left[0], c[p]) {
+        return Ok(());
+    }
+    match place_from(left, c, walk, neighbours, p) {
+        Some(place) => found.push(place).map_err(|_| Memory),
+        None => Ok(()),
+    }
+}
+
+/// The places of a left side alone, by their positions in rising order, from a walk over it and the links of the program. It
+/// takes a time about linear in the number of gates, and no memory but for the list.
+pub fn places_of(
+    alloc: Global,
+    left: &[Op],
+    walk: &Walk,
+    c: &[Inst],
+    neighbours: &Neighbours,
+) -> Result<Vec<Place>, Memory>
+    requires short { length left.now ≤ 6 }
+    requires some { 0 < length left.now }
+    requires on { IsOn 3 3 left.now }
+    requires lawful { AllByRecursion (IsProgramGate 64) c.now }
+    requires walk { IsWalk left.now walk.now }
+    requires links { AreLinksOf c.now neighbours.now }
+    ensures { IfOk result (λ found. found.items ≡ all_places left.now c.now) }
+{
+    let mut found = Vec::new(alloc);
+    for p in 0..c.len() {
+        add_from(&mut found, left, c, walk, neighbours, p)?;
+    }
+    Ok(found)
+}
