@@ -1,0 +1,6 @@
+pub mod Gathered
+pub mod FoundPlaces
+pub mod SideSteps
+pub mod SidesAre
+pub mod Sorting
+pub mod Children

@@ -1,0 +1,2 @@
+pub mod SoundClasses
+pub mod Sides

@@ -1,0 +1,9 @@
+//! Local rewriting of programs: what a program becomes by a rule at a place, and the law that this keeps the unitary.
+#![tactic(auto)]
+
+pub mod laws;
+pub mod replacement;
+mod sides;
+pub mod worked_values;
+
+pub use replacement::replace;
