@@ -1,0 +1,5 @@
+pub mod DifferentOnes
+pub mod Ranks
+pub mod QueueLists
+pub mod Costs
+pub mod Fronts

@@ -1,0 +1,11 @@
+//! Queues of program circuits, which hold at most so many different ones, and sets of program circuits. Both keep them in the
+//! order of programs.
+#![tactic(auto)]
+
+pub mod laws;
+mod place;
+pub mod queue;
+pub mod seen;
+
+pub use queue::Queue;
+pub use seen::Seen;

@@ -1,0 +1,95 @@
+//! The place of a circuit among others that are different and in order.
+ghost use Rattle.std.specs.Prelude.{◌≡◌, ◌<◌, ◌≤◌, [], length, take, slice_index_or};
+ghost use Rattle.std.specs.Ordering.{eq_by_cmp};
+ghost use Rattle.qz_circ.specs.ProgramCircuits.{program_cmp};
+ghost use Rattle.qz_circ.specs.Search.{is_among};
+ghost use Rattle.qz_queue.specs.Circuits.{circuits, AreOrdered, IsFront, place_of};
+
+use qz_circ::{Inst, prec_insts};
+use std::cmp::Ordering;
+
+// How the circuit with this number compares with another one, where some gates at their front are known to be the same; and
+// how many then are known to be, which is none where one of them is longer.
+fn compare_from(list: &[Vec<Inst>], i: usize, c: &[Inst], from: usize) -> (Ordering, usize)
+    requires within { i < length list.now }
+    requires same { take from (slice_index_or (circuits list.now) i []) ≡ take from c.now }
+    ensures order { result.0 ≡ program_cmp (slice_index_or (circuits list.now) i []) c.now }
+    ensures same { IsFront result.1 (slice_index_or (circuits list.now) i []) c.now }
+{
+    compare_gates(&list[i], c, from)
+}
+
+// The same for a circuit at hand.
+fn compare_gates(a: &[Inst], c: &[Inst], from: usize) -> (Ordering, usize)
+    requires { take from a.now ≡ take from c.now }
+    ensures order { result.0 ≡ program_cmp a.now c.now }
+    ensures same { IsFront result.1 a.now c.now }
+{
+    if a.len() != c.len() {
+        return (prec_insts(a, c), 0);
+    }
+    let mut k = from;
+    while k < a.len() {
+        let order = a[k].cmp(&c[k]);
+        if order.is_ne() {
+            return (order, k);
+        }
+        k += 1;
+    }
+    (Ordering::Equal, k)
+}
+
+// The next number to look at, from low on and below high: the last of all at first, and then one in the middle.
+fn probe(low: usize, high: usize, count: usize) -> usize
+    requires { low < high }
+    ensures from { low ≤ result }
+    ensures below { result < high }
+{
+    if high == count {
+        high - 1
+    } else {
+        low + (high - low) / 2
+    }
+}
+
+// Whether the circuit with this number is equal to another one.
+fn is_equal(list: &[Vec<Inst>], i: usize, c: &[Inst]) -> bool
+    requires { i < length list.now }
+    ensures { result ≡ eq_by_cmp program_cmp c.now (slice_index_or (circuits list.now) i []) }
+{
+    prec_insts(c, &list[i]).is_eq()
+}
+
+// How many of some circuits that are different and in order are before another one. What is known to be the same as in the
+// nearest ones on both sides is the same in those between, so that it isn't compared again.
+pub(crate) fn place(list: &[Vec<Inst>], c: &[Inst]) -> usize
+    requires { AreOrdered (circuits list.now) }
+    ensures place { result ≡ place_of (circuits list.now) c.now }
+    ensures bound { result ≤ length list.now }
+{
+    let mut low = 0;
+    let mut high = list.len();
+    let mut low_same = 0;
+    let mut high_same = 0;
+    while low < high {
+        let middle = probe(low, high, list.len());
+        let (order, same) = compare_from(list, middle, c, low_same.min(high_same));
+        if order.is_lt() {
+            low = middle + 1;
+            low_same = same;
+        } else {
+            high = middle;
+            high_same = same;
+        }
+    }
+    low
+}
+
+// Whether a circuit is among some that are different and in order, where so many of them are before it.
+pub(crate) fn is_there(list: &[Vec<Inst>], place: usize, c: &[Inst]) -> bool
+    requires ordered { AreOrdered (circuits list.now) }
+    requires place { place ≡ place_of (circuits list.now) c.now }
+    ensures { result ≡ is_among (circuits list.now) c.now }
+{
+    place < list.len() && is_equal(list, place, c)
+}

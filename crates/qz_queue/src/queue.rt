@@ -1,0 +1,168 @@
+//! A queue: at most so many different circuits, in order.
+ghost use Rattle.std.specs.Prelude.{◌≡◌, ◌<◌, ◌≤◌, ◌-◌, ◌↔◌, ◌++◌, min, nat_lt, true, false, vec_len, vec_capacity, IsTrue, None, Some, [], ◌∷◌, length, take, drop, count_by, slice_get, IfOk, OnOk, OnErr, IfSome};
+ghost use Rattle.std.specs.List.{insert};
+ghost use Rattle.qz_circ.specs.ProgramCircuits.{ProgramCircuit, cost};
+ghost use Rattle.qz_circ.specs.Queue.{IsQueue, IsRefused, firsts};
+ghost use Rattle.qz_circ.specs.Search.{is_among};
+ghost use Rattle.qz_queue.specs.Circuits.{circuits};
+
+use crate::place::{is_there, place};
+use qz_circ::{Inst, Memory};
+use std::alloc::Global;
+use std::marker::Model;
+
+/// At most so many different circuits, in the order of programs: a cheaper one first, and of equally cheap ones that whose
+/// first different gate is earlier.
+#[derive(Drop)]
+pub struct Queue {
+    alloc: Global,
+    cap: usize,
+    list: Vec<Vec<Inst>>,
+}
+
+impl Model for Queue {
+    ghost use Rattle.qz_circ.specs.Queue.{QueueList};
+    ghost use Rattle.qz_queue.specs.HeldQueue.{queue_of, IsHeld};
+
+    ghost Value = { QueueList };
+
+    ghost view = { λ q. queue_of q.cap q.list };
+
+    ghost invariant = { λ q. IsHeld q.cap q.list };
+}
+
+// Puts a circuit in at a place, in a list that holds at most so many, and drops the last one where there are then too many.
+// There is room, so it always succeeds.
+fn put(list: &mut Vec<Vec<Inst>>, most: usize, place: usize, c: Vec<Inst>) -> bool
+    requires room { most ≤ vec_capacity list.old }
+    requires below { place < most }
+    requires within { place ≤ vec_len list.old }
+    ensures items { list.new.items ≡ insert (take (most - 1) list.old.items) place c }
+    ensures room { most ≤ vec_capacity list.new }
+    ensures always { result ≡ true }
+{
+    list.truncate(most - 1);
+    list.insert(place, c).is_ok()
+}
+
+// The lesser of two numbers.
+fn least(k: u64, n: usize) -> usize
+    ensures value { result ≡ min k n }
+{
+    if k < n as u64 { k as usize } else { n }
+}
+
+// Moves the first n circuits into a vector that has room for them.
+fn take_front(list: &mut Vec<Vec<Inst>>, room: Vec<Vec<Inst>>, n: usize) -> Vec<Vec<Inst>>
+    requires within { n ≤ vec_len list.old }
+    requires empty { room.items ≡ [] }
+    requires room { n ≤ vec_capacity room }
+    ensures taken { result.items ≡ take n list.old.items }
+    ensures rest { list.new.items ≡ drop n list.old.items }
+    ensures capacity { vec_capacity list.new ≡ vec_capacity list.old }
+{
+    let mut taken = room;
+    for _ in 0..n {
+        taken.push_reserved(list.remove(0));
+    }
+    taken
+}
+
+impl Queue {
+    /// An empty queue that holds at most this many circuits. Room for them all is made here.
+    pub fn new(alloc: Global, cap: u64) -> Result<Queue, Memory>
+        requires some { 1 ≤ cap }
+        requires few { cap ≤ 500 }
+        ensures { IfOk result (λ q. q ≡ record { cap = cap; list = [] }) }
+    {
+        let cap = cap as usize;
+        match Vec::with_capacity(alloc, cap) {
+            Ok(list) => Ok(Queue { alloc, cap, list }),
+            Err(_) => Err(Memory),
+        }
+    }
+
+    /// Puts a circuit in its place, and drops the last one where there are then too many. False, with nothing changed, where
+    /// the circuit is there, or where as many earlier ones are there as the queue holds at most. It takes no memory.
+    pub fn offer(&mut self, c: Vec<Inst>) -> bool
+        ensures list { self.new ≡ record self.old { list = firsts self.old.cap (c.items ∷ self.old.list) } }
+        ensures refused { (result ≡ false) ↔ IsRefused self.old c.items }
+        ensures kept { result ≡ false → self.new ≡ self.old }
+    {
+        let place = place(&self.list, &c);
+        if place == self.cap {
+            return false;
+        }
+        if is_there(&self.list, place, &c) {
+            return false;
+        }
+        put(&mut self.list, self.cap, place, c)
+    }
+
+    /// Takes out the first k circuits, or all where there are fewer. After an error nothing has changed.
+    pub fn take_batch(&mut self, k: u64) -> Result<Vec<Vec<Inst>>, Memory>
+        ensures taken { IfOk result (λ batch. circuits batch.items ≡ take k self.old.list) }
+        ensures rest { OnOk result (self.new ≡ record self.old { list = drop k self.old.list }) }
+        ensures err { OnErr result (self.new ≡ self.old) }
+    {
+        let n = least(k, self.list.len());
+        let Ok(room) = Vec::with_capacity(self.alloc, n) else {
+            return Err(Memory);
+        };
+        Ok(take_front(&mut self.list, room, n))
+    }
+
+    /// Takes in all circuits of another queue with the same greatest number. It takes no memory.
+    pub fn merge(&mut self, other: Queue)
+        requires { self.old.cap ≡ other.cap }
+        ensures { self.new ≡ record self.old { list = firsts self.old.cap (self.old.list ++ other.list) } }
+    {
+        let _ = &self.list;
+        for c in other.list {
+            self.offer(c);
+        }
+    }
+
+    /// The first circuit, if any.
+    pub fn best(&self) -> Option<&[Inst]>
+        ensures first { IfSome result (λ b. slice_get self.now.list 0 ≡ Some b.now) }
+        ensures none { (result ≡ None) ↔ (self.now.list ≡ []) }
+        ensures lawful { IsQueue self.now }
+    {
+        match self.list.first() {
+            Some(c) => Some(c),
+            None => None,
+        }
+    }
+
+    /// How many circuits it holds.
+    pub fn len(&self) -> u64
+        ensures value { result ≡ length self.now.list }
+        ensures lawful { IsQueue self.now }
+    {
+        self.list.len() as u64
+    }
+
+    /// Whether it holds this circuit.
+    pub fn contains(&self, c: &[Inst]) -> bool
+        ensures { result ≡ is_among self.now.list c.now }
+    {
+        let place = place(&self.list, c);
+        is_there(&self.list, place, c)
+    }
+
+    /// Whether as many circuits of less than this cost are there as the queue holds at most, so that it refuses each circuit of
+    /// this cost or more.
+    pub fn is_closed_to(&self, n: u64) -> bool
+        ensures exact { IsTrue result ↔ (self.now.cap ≤ count_by (λ d. nat_lt (cost d) n) self.now.list) }
+        ensures refused { IsTrue result → (c : ProgramCircuit) → n ≤ cost c → firsts self.now.cap (c ∷ self.now.list) ≡ self.now.list }
+    {
+        if self.list.len() < self.cap {
+            return false;
+        }
+        match self.list.last() {
+            Some(c) => (c.len() as u64) < n,
+            None => false,
+        }
+    }
+}
