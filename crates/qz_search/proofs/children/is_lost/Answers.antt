@@ -1,0 +1,8 @@
+use Rattle.std.proofs.Common.{◌≤◌, length, arith}
+use Rattle.qz_search.proofs.Offering.{closed_lost}
+use Rattle.qz_search.proofs.children.is_lost.Goals as goal
+
+pub returns-else-n-most : goal.returns-else-n-most
+returns-else-n-most c = λ closed seen d e.
+    let dear : c.args.n ≤ length d = omega (arith, e) in
+    closed_lost c.args.queue.now seen c.args.most d c.requires (c.is_closed_to.ensures.refused closed d dear)

@@ -1,0 +1,29 @@
+-- What a search offers to its queue, and where it stands.
+use Rattle.std.specs.Prelude.{◌≡◌, ℕ, ◌≤◌, nat_le, Bool, not, ◌&&◌, List, ◌++◌, length, Contains}
+use Rattle.std.specs.List.{AllByRecursion}
+use Rattle.qz_circ.specs.ProgramCircuits.{ProgramCircuit, IsProgramGate, cost, program_cmp}
+use Rattle.qz_circ.specs.Queue.{QueueList, different, firsts}
+use Rattle.qz_circ.specs.Search.{PlanNumbers, SearchState, is_among}
+
+-- the circuit is none of those that were taken, and costs at most so much
+abbrev pub is_new : List ProgramCircuit → ℕ → ProgramCircuit → Bool
+is_new seen most c = not (is_among seen c) && nat_le (cost c) most
+
+-- the queue after these circuits were offered
+abbrev pub offered_to : QueueList → List ProgramCircuit → QueueList
+offered_to q cs = record { cap = q.cap; list = firsts q.cap (q.list ++ cs) }
+
+-- the circuit has program gates on 64 qubits, and few enough of them
+pub record IsFit (c : ProgramCircuit) : Type 0 where
+  pub gates : AllByRecursion (IsProgramGate 64) c
+  pub short : length c ≤ 20004
+
+-- each of the circuits is so
+abbrev pub AreFit : List ProgramCircuit → Type 0
+AreFit cs = (c : ProgramCircuit) → Contains cs c → IsFit c
+
+-- what stands in memory is the state of a search by this plan
+pub record IsAt (plan : PlanNumbers) (s : SearchState) (seen : List ProgramCircuit) (queue : QueueList) (best : ProgramCircuit) : Type 0 where
+  pub seen_is : seen ≡ different program_cmp s.seen
+  pub queue_is : queue ≡ record { cap = plan.cap; list = s.queue }
+  pub best_is : best ≡ s.best

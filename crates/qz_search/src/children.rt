@@ -1,0 +1,202 @@
+//! Offering a queue what a circuit becomes by one step with rules.
+ghost use Rattle.std.specs.Prelude.{◌≡◌, ℕ, ◌<◌, ◌≤◌, ◌&&◌, [], ◌∷◌, List, length, true, nat_lt, Contains, IsTrue, OnOk};
+ghost use Rattle.std.specs.List.{AllByRecursion, filter};
+ghost use Rattle.qz_circ.specs.Circuit.{IsOn};
+ghost use Rattle.qz_circ.specs.Places.{is_connected, places, all_places};
+ghost use Rattle.qz_circ.specs.ProgramCircuits.{ProgramCircuit, IsProgramGate, cost};
+ghost use Rattle.qz_circ.specs.Queue.{IsQueue};
+ghost use Rattle.qz_circ.specs.Replacement.{replaced, numbered, children_by, children_in, children};
+ghost use Rattle.qz_match.specs.Neighbours.{AreLinksOf};
+ghost use Rattle.qz_search.specs.Offers.{is_new, offered_to};
+ghost use Rattle.qz_search.specs.PreparedRules.{rule_circuits, AreRuleSides, children_from, IsLeftSide};
+
+use crate::offer::offer_child;
+use crate::prepared::{LeftSide, Prepared, PreparedClass};
+use qz_circ::{Inst, Memory, Op};
+use qz_match::{Neighbours, Place, places_of};
+use qz_queue::{Queue, Seen};
+use qz_rewrite::replace;
+use qz_subst::instance_len;
+use std::alloc::Global;
+
+// Whether no circuit of this cost would change the queue.
+fn is_lost(queue: &Queue, most: u64, n: u64) -> bool
+    requires { IsQueue queue.now }
+    ensures { IsTrue result → (seen : List ProgramCircuit) (c : ProgramCircuit) → cost c ≡ n → queue.now ≡ offered_to queue.now (filter (is_new seen most) (c ∷ [])) }
+{
+    n > most || queue.is_closed_to(n)
+}
+
+// What a circuit costs with the instance of right in place of left.
+fn new_cost(c: &[Inst], left: &[Op], right: &[Op], place: &Place) -> u64
+    requires short { length c.now ≤ 20004 }
+    requires few { length right.now ≤ 6 }
+    requires place { Contains (places left.now right.now c.now) place.now }
+    ensures { result ≡ cost (replaced c.now right.now place.now) }
+{
+    (c.len() + instance_len(right, &place.binding()) - left.len()) as u64
+}
+
+// Offers a circuit with right in place of left at one place. It is made only where it may change the queue.
+fn offer_at(
+    alloc: Global,
+    seen: &Seen,
+    most: u64,
+    c: &[Inst],
+    left: &[Op],
+    right: &[Op],
+    place: &Place,
+    queue: &mut Queue,
+) -> Result<(), Memory>
+    requires lawful { IsQueue queue.old }
+    requires gates { AllByRecursion (IsProgramGate 64) c.now }
+    requires short { length c.now ≤ 20004 }
+    requires left { IsOn 3 3 left.now }
+    requires right { IsOn 3 3 right.now }
+    requires few { length right.now ≤ 6 }
+    requires place { Contains (places left.now right.now c.now) place.now }
+    ensures { OnOk result (queue.new ≡ offered_to queue.old (filter (is_new seen.now most) (replaced c.now right.now place.now ∷ []))) }
+{
+    if is_lost(queue, most, new_cost(c, left, right, place)) {
+        return Ok(());
+    }
+    let child = replace(alloc, c, left, right, place)?;
+    offer_child(seen, most, child, queue);
+    Ok(())
+}
+
+// The same at each of the places.
+fn offer_right(
+    alloc: Global,
+    seen: &Seen,
+    most: u64,
+    c: &[Inst],
+    left: &[Op],
+    right: &[Op],
+    found: &[Place],
+    queue: &mut Queue,
+) -> Result<(), Memory>
+    requires lawful { IsQueue queue.old }
+    requires gates { AllByRecursion (IsProgramGate 64) c.now }
+    requires short { length c.now ≤ 20004 }
+    requires left { IsOn 3 3 left.now }
+    requires right { IsOn 3 3 right.now }
+    requires few { length right.now ≤ 6 }
+    requires found { found.now ≡ places left.now right.now c.now }
+    ensures { OnOk result (queue.new ≡ offered_to queue.old (filter (is_new seen.now most) (children_by left.now right.now c.now))) }
+{
+    for place in found {
+        offer_at(alloc, seen, most, c, left, right, place, queue)?;
+    }
+    Ok(())
+}
+
+// Offers what a circuit becomes by two members of a class, the first one being the left side.
+fn offer_pair(
+    alloc: Global,
+    seen: &Seen,
+    most: u64,
+    c: &[Inst],
+    members: &[Vec<Op>],
+    i: usize,
+    j: usize,
+    found: &[Place],
+    queue: &mut Queue,
+) -> Result<(), Memory>
+    requires lawful { IsQueue queue.old }
+    requires gates { AllByRecursion (IsProgramGate 64) c.now }
+    requires short { length c.now ≤ 20004 }
+    requires fit { AreRuleSides (rule_circuits members.now) }
+    requires left { i < length members.now }
+    requires right { j < length members.now }
+    requires found { found.now ≡ places (numbered (rule_circuits members.now) i) (numbered (rule_circuits members.now) j) c.now }
+    ensures { OnOk result (queue.new ≡ offered_to queue.old (filter (is_new seen.now most) (children_by (numbered (rule_circuits members.now) i) (numbered (rule_circuits members.now) j) c.now))) }
+{
+    offer_right(alloc, seen, most, c, &members[i], &members[j], found, queue)
+}
+
+// Offers what a circuit becomes by one left side, with each of its right sides.
+fn offer_side(
+    alloc: Global,
+    seen: &Seen,
+    most: u64,
+    c: &[Inst],
+    neighbours: &Neighbours,
+    members: &[Vec<Op>],
+    side: &LeftSide,
+    queue: &mut Queue,
+) -> Result<(), Memory>
+    requires lawful { IsQueue queue.old }
+    requires gates { AllByRecursion (IsProgramGate 64) c.now }
+    requires short { length c.now ≤ 20004 }
+    requires links { AreLinksOf c.now neighbours.now }
+    requires fit { AreRuleSides (rule_circuits members.now) }
+    requires side { IsLeftSide (rule_circuits members.now) side.now }
+    ensures { OnOk result (queue.new ≡ offered_to queue.old (filter (is_new seen.now most) (children_from (rule_circuits members.now) side.now c.now))) }
+{
+    let left = &members[side.number];
+    let found = places_of(alloc, left, &side.walk, c, neighbours)?;
+    let rights = side.rights.as_slice();
+    for j in rights {
+        offer_pair(
+            alloc,
+            seen,
+            most,
+            c,
+            members,
+            side.number,
+            *j,
+            &found,
+            queue,
+        )?;
+    }
+    Ok(())
+}
+
+// Offers what a circuit becomes by one class.
+fn offer_class(
+    alloc: Global,
+    seen: &Seen,
+    most: u64,
+    c: &[Inst],
+    neighbours: &Neighbours,
+    class: &PreparedClass,
+    queue: &mut Queue,
+) -> Result<(), Memory>
+    requires lawful { IsQueue queue.old }
+    requires gates { AllByRecursion (IsProgramGate 64) c.now }
+    requires short { length c.now ≤ 20004 }
+    requires links { AreLinksOf c.now neighbours.now }
+    ensures { OnOk result (queue.new ≡ offered_to queue.old (filter (is_new seen.now most) (children_in class.now c.now))) }
+{
+    let members = class.members();
+    let sides = class.sides();
+    for side in sides {
+        offer_side(alloc, seen, most, c, neighbours, members, side, queue)?;
+    }
+    Ok(())
+}
+
+// Offers to the queue what a circuit becomes by one step with the rules, where it is new. The links are made to be those of
+// this circuit.
+pub(crate) fn offer_children(
+    alloc: Global,
+    rules: &Prepared,
+    neighbours: &mut Neighbours,
+    seen: &Seen,
+    most: u64,
+    c: &[Inst],
+    queue: &mut Queue,
+) -> Result<(), Memory>
+    requires lawful { IsQueue queue.old }
+    requires gates { AllByRecursion (IsProgramGate 64) c.now }
+    requires short { length c.now ≤ 20004 }
+    ensures { OnOk result (queue.new ≡ offered_to queue.old (filter (is_new seen.now most) (children rules.now c.now))) }
+{
+    neighbours.renew(c)?;
+    let classes = rules.classes();
+    for class in classes {
+        offer_class(alloc, seen, most, c, neighbours, class, queue)?;
+    }
+    Ok(())
+}

@@ -1,0 +1,12 @@
+//! The search for cheaper program circuits, by rounds over a queue.
+#![tactic(auto)]
+
+mod children;
+pub mod laws;
+mod offer;
+pub mod plan;
+mod prepared;
+pub mod rounds;
+
+pub use plan::{Plan, PlanFault};
+pub use rounds::search;

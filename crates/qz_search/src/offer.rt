@@ -1,0 +1,89 @@
+//! What a round offers to the queue.
+ghost use Rattle.std.specs.Prelude.{◌≡◌, [], ◌∷◌, ◌++◌, List, OnOk, IfOk};
+ghost use Rattle.std.specs.List.{filter, flat_map};
+ghost use Rattle.qz_circ.specs.ProgramCircuits.{ProgramCircuit, program_cmp};
+ghost use Rattle.qz_circ.specs.Queue.{IsQueue, different};
+ghost use Rattle.qz_circ.specs.Replacement.{children};
+ghost use Rattle.qz_circ.specs.Search.{earliest};
+ghost use Rattle.qz_queue.specs.Circuits.{circuits};
+ghost use Rattle.qz_search.specs.Offers.{is_new, offered_to, AreFit};
+
+use crate::children::offer_children;
+use crate::prepared::Prepared;
+use qz_circ::{Inst, Memory, prec_insts};
+use qz_match::Neighbours;
+use qz_queue::{Queue, Seen};
+use std::alloc::Global;
+
+// Whether a circuit is new: none of those that were taken, and of at most this cost.
+fn is_offered(seen: &Seen, most: u64, c: &[Inst]) -> bool
+    ensures { result ≡ is_new seen.now most c.now }
+{
+    c.len() as u64 <= most && !seen.contains(c)
+}
+
+// Offers a circuit to the queue where it is new.
+pub(crate) fn offer_child(seen: &Seen, most: u64, c: Vec<Inst>, queue: &mut Queue)
+    requires { IsQueue queue.old }
+    ensures { queue.new ≡ offered_to queue.old (filter (is_new seen.now most) (c.items ∷ [])) }
+{
+    if is_offered(seen, most, &c) {
+        queue.offer(c);
+    }
+}
+
+// Offers to the queue what each of these circuits becomes by one step with the rules, where it is new.
+pub(crate) fn offer_batch(
+    alloc: Global,
+    rules: &Prepared,
+    seen: &Seen,
+    most: u64,
+    batch: &[Vec<Inst>],
+    queue: &mut Queue,
+) -> Result<(), Memory>
+    requires lawful { IsQueue queue.old }
+    requires fit { AreFit (circuits batch.now) }
+    ensures { OnOk result (queue.new ≡ offered_to queue.old (filter (is_new seen.now most) (flat_map (children rules.now) (circuits batch.now)))) }
+{
+    let mut neighbours = Neighbours::of(alloc, &[])?;
+    for c in batch {
+        offer_children(alloc, rules, &mut neighbours, seen, most, c, queue)?;
+    }
+    Ok(())
+}
+
+// Puts these circuits into a set.
+pub(crate) fn add_all(alloc: Global, seen: &mut Seen, batch: &[Vec<Inst>]) -> Result<(), Memory>
+    ensures { OnOk result ((all : List ProgramCircuit) → seen.old ≡ different program_cmp all → seen.new ≡ different program_cmp (all ++ circuits batch.now)) }
+{
+    for c in batch {
+        seen.insert(copy_of(alloc, c)?)?;
+    }
+    Ok(())
+}
+
+// A copy of a circuit.
+pub(crate) fn copy_of(alloc: Global, c: &[Inst]) -> Result<Vec<Inst>, Memory>
+    ensures { IfOk result (λ copy. copy.items ≡ c.now) }
+{
+    match Vec::from_slice(alloc, c) {
+        Ok(copy) => Ok(copy),
+        Err(_) => Err(Memory),
+    }
+}
+
+// The earlier one of a circuit and the first in the queue.
+pub(crate) fn earlier(alloc: Global, best: &[Inst], queue: &Queue) -> Result<Vec<Inst>, Memory>
+    ensures { IfOk result (λ b. b.items ≡ earliest best.now queue.now.list) }
+{
+    match queue.best() {
+        Some(first) => {
+            if prec_insts(first, best).is_lt() {
+                copy_of(alloc, first)
+            } else {
+                copy_of(alloc, best)
+            }
+        }
+        None => copy_of(alloc, best),
+    }
+}
