@@ -9,6 +9,7 @@ use Rattle.qz_circ.specs.FirstFault.{◌>>=◌, fault_as}
 use Rattle.qz_circ.specs.Forms.{misfit, Operand}
 use Rattle.qz_circ.specs.Lexemes.{Lexeme}
 use Rattle.qz_circ.specs.Grammar.{unless_at}
+use Rattle.qz_qread.specs.ProgramLimits.{IsProgramLimit}
 
 -- the value has the one property, and the fault the other
 abbrev pub Holds : {A F : Type 0} → (F → Type 0) → (A → Type 0) → Result A F → Type 0
@@ -19,9 +20,10 @@ Holds Fair P (Err e) = Fair e
 pub record Meets {A F : Type 0} (Fair : F → Type 0) (P : A → Type 0) (r : Result A F) : Type 0 where
   pub holds : Holds Fair P r
 
--- the fault is one of the text, and not that memory ran out
+-- the fault is one of the text, and not that memory ran out; a limit is one of programs
 abbrev pub IsOfText : QasmFault → Type 0
 IsOfText fault.Memory = ⊥
+IsOfText (fault.Limit which place) = IsProgramLimit which
 IsOfText (fault.Lex lex_fault.Memory) = ⊥
 IsOfText _ = Unit {0}
 

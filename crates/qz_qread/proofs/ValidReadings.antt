@@ -24,6 +24,8 @@ use Rattle.qz_circ.specs.Lexemes.{Lexeme, kind_of, lexemes, is_semicolon, statem
 use Rattle.qz_circ.specs.Forms.{is_text, is_word, begins_lower}
 use Rattle.qz_circ.specs.Grammar.{size_unless, whole_size, ordered_gate_form, with_gates, with_gate, with_barrier, with_measurement, with_inclusion, unsupported_words, with_words, with_statement, with_statements, empty_program, program_from, program_of}
 use Rattle.qz_circ.proofs.RisingLists.{each-append}
+use Rattle.qz_circ.specs.declared.fault.Which.{Which}
+use Rattle.qz_qread.specs.ProgramLimits.{IsProgramLimit}
 use Rattle.qz_qread.proofs.Readings.{IsOfText, Reads, Anything, value_met, fault_met, done, refused, next, choice, as_other, found, misfits}
 use Rattle.qz_qread.specs.Spelled.{AreSpelled}
 use Rattle.qz_qread.proofs.SpelledLexemes.{IsOfTokens, tokens_read, statements_spelled}
@@ -175,3 +177,6 @@ no_program_lacks_memory bytes is = fault_met IsOfText Valid (program_of bytes) f
 
 pub no_tokens_lack_memory : (bytes : List ℕ) → program_of bytes ≢ Err (fault.Lex lex_fault.Memory)
 no_tokens_lack_memory bytes is = fault_met IsOfText Valid (program_of bytes) (fault.Lex lex_fault.Memory) (program_read bytes) is
+
+pub limits_are_of_programs : (bytes : List ℕ) (which : Which) (place : ℕ) → program_of bytes ≡ Err (fault.Limit which place) → IsProgramLimit which
+limits_are_of_programs bytes which place is = fault_met IsOfText Valid (program_of bytes) (fault.Limit which place) (program_read bytes) is

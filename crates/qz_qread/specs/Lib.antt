@@ -3,3 +3,4 @@ pub mod Expected
 pub mod FormParts
 pub mod Spelled
 pub mod Stated
+pub mod ProgramLimits
