@@ -1,8 +1,9 @@
 -- When answers are carried out.
-use Rattle.std.proofs.Common.{◌≡◌, ◌≢◌, ℕ, List, [], Option, Some, None, Result, Ok, Err, IsTrue, refl, subst, sym, ap, inl, inr}
+use Rattle.std.proofs.Common.{◌≡◌, ◌≢◌, ℕ, List, [], Option, Some, None, Result, Ok, Err, IsTrue, true, refl, subst, sym, ap, inl, inr, arith}
 use Rattle.std.specs.Prelude.{◌⊎◌, MatchResult}
 use Rattle.std.specs.Io.KnownBytes.{append_known}
 use Rattle.qz_io.specs.Counts.{Rose}
+use Rattle.qz_io.specs.Files.{Files}
 use Rattle.qz_io.specs.Told.{HasPart}
 use Rattle.qz_io.specs.Transfers.{Input}
 use Rattle.qz_top.specs.declared.status.Status.{Status}
@@ -10,9 +11,9 @@ use Rattle.qz_top.specs.declared.status.Status.TheVariants as status
 use Rattle.qz_top.specs.declared.words.Command.{Command}
 use Rattle.qz_top.specs.declared.words.WordFault.{WordFault}
 use Rattle.qz_top.specs.declared.words.WordFault.TheVariants as word_fault
-use Rattle.qz_top.specs.Status.{IsRefusal, WritesNothing}
-use Rattle.qz_top.specs.Answer.{Answer, Given, Outside, AreTold, status_alone, done, IsCarriedOut}
-use Rattle.qz_top.specs.Making.{IsToBeWritten, EndsEarly}
+use Rattle.qz_top.specs.Status.{IsRefusal, IsBeforeInput, WritesNothing}
+use Rattle.qz_top.specs.Answer.{Answer, Given, Output, Storage, Outside, IsTold, AreTold, IsCalm, status_alone, done, IsCarriedOut}
+use Rattle.qz_top.specs.Making.{IsToBeWritten, EndsEarly, EndsUnread}
 use Rattle.qz_top.specs.Run.{status_of_words, CommandAnswers, WordsAnswer}
 use Rattle.qz_top.specs.Words.{command_of}
 
@@ -25,8 +26,26 @@ refusal_writes_nothing status.Memory r = r
 refusal_writes_nothing status.Usage r = tt
 refusal_writes_nothing (status.Limit which) r = tt
 refusal_writes_nothing (status.Qasm fault) r = tt
+refusal_writes_nothing (status.RuleSyntax place) r = tt
+refusal_writes_nothing (status.Unsound class member) r = tt
+refusal_writes_nothing status.NoFile r = tt
 refusal_writes_nothing status.ReadFault r = tt
 refusal_writes_nothing status.WriteFault r = r
+refusal_writes_nothing status.ShelfFault r = tt
+
+-- at a status that comes before any input nothing is written
+pub before_writes_nothing : (s : Status) → IsBeforeInput s → WritesNothing s
+before_writes_nothing status.Ok b = b
+before_writes_nothing status.Memory b = b
+before_writes_nothing status.Usage b = tt
+before_writes_nothing (status.Limit which) b = tt
+before_writes_nothing (status.Qasm fault) b = absurd b
+before_writes_nothing (status.RuleSyntax place) b = tt
+before_writes_nothing (status.Unsound class member) b = tt
+before_writes_nothing status.NoFile b = tt
+before_writes_nothing status.ReadFault b = absurd b
+before_writes_nothing status.WriteFault b = b
+before_writes_nothing status.ShelfFault b = tt
 
 -- what is left of the statuses where something may be written, and there is no write fault
 done_or_memory : (s : Status) → (WritesNothing s → ⊥) → s ≢ status.WriteFault → (s ≡ status.Ok) ⊎ (s ≡ status.Memory)
@@ -35,8 +54,12 @@ done_or_memory status.Memory n w = inr refl
 done_or_memory status.Usage n w = absurd (n tt)
 done_or_memory (status.Limit which) n w = absurd (n tt)
 done_or_memory (status.Qasm fault) n w = absurd (n tt)
+done_or_memory (status.RuleSyntax place) n w = absurd (n tt)
+done_or_memory (status.Unsound class member) n w = absurd (n tt)
+done_or_memory status.NoFile n w = absurd (n tt)
 done_or_memory status.ReadFault n w = absurd (n tt)
 done_or_memory status.WriteFault n w = absurd (w refl)
+done_or_memory status.ShelfFault n w = absurd (n tt)
 
 -- a refusal is not success
 refusal_is_not_ok : (s : Status) → IsRefusal s → s ≢ status.Ok
@@ -44,15 +67,39 @@ refusal_is_not_ok s r e = subst IsRefusal e r
 
 -- ---- what is given
 
--- something may have been given
-pub some_given : (told : Option (List ℕ)) → (given : Given) × AreTold told given.input
-some_given None = (record { input = [] }, tt)
-some_given (Some bytes) = (record { input = bytes }, refl)
+-- something is given, which is what is told, where it is told
+some_told : {A : Type 0} → A → (told : Option A) → (given : A) × IsTold told given
+some_told other None = (other, tt)
+some_told other (Some told) = (told, refl)
+
+-- an input may have been given
+pub some_input : (told : Option (List ℕ)) → (bytes : List ℕ) × IsTold told bytes
+some_input told = some_told [] told
+
+-- files may have been given
+pub some_files : (told : Option Files) → (files : Files) × IsTold told files
+some_files told = some_told (λ name. None) told
+
+-- both may have been given
+pub some_given : (input : Input) (shelf : Storage) → (given : Given) × AreTold input shelf given
+some_given input shelf =
+    let bytes = some_input input.old in
+    let files = some_files shelf.files in
+    (record { input = bytes.0; files = files.0 }, (bytes.1, files.1))
+
+-- a shelf on which nothing happens
+abbrev pub still : Storage
+still = record { files = None; faults_before = 0; faults_after = 0; answers_faults = true }
+
+-- its count doesn't rise
+pub still_not_rose : Rose 0 0 → ⊥
+still_not_rose (inl more) = absurd (omega arith)
+still_not_rose (inr last) = absurd (omega (arith, last))
 
 -- ---- commands
 
 -- a text that is to be written is handed to the output
-pub carried_by_text : (Answers : Given → Answer → Type 0) (text : List ℕ) (s : Status) (outside : Outside) → IsToBeWritten Answers text outside.input →
+pub carried_by_text : (Answers : Given → Answer → Type 0) (text : List ℕ) (s : Status) (outside : Outside) → IsToBeWritten Answers text outside.input outside.shelf →
     (WritesNothing s → ⊥) → (s ≡ status.Ok → outside.out.written_after ≡ append_known outside.out.written_before text) → (s ≢ status.Ok → HasPart outside.out.written_before text outside.out.written_after) →
     (s ≡ status.WriteFault → Rose outside.out.faults_before outside.out.faults_after) → (IsTrue outside.out.answers_faults → s ≢ status.WriteFault → outside.out.faults_after ≡ outside.out.faults_before) → IsCarriedOut Answers s outside
 carried_by_text Answers text s outside made begun whole part failed answered = record {
@@ -63,58 +110,120 @@ carried_by_text Answers text s outside made begun whole part failed answered = r
   write_fault = λ e. record { answer = done text; is_answer = made.is_answer; done = refl; part = part (λ k. cc (e, k)) };
   memory = λ e. inr (record { answer = done text; is_answer = made.is_answer; done = refl; part = part (λ k. cc (e, k)) });
   read_failed = λ e. absurd (begun (subst WritesNothing (sym e) tt));
+  shelf_failed = λ e. absurd (begun (subst WritesNothing (sym e) tt));
   write_failed = failed;
-  refuses = λ b h r calm. absurd (refusal_is_not_ok b.status r (made.well b h));
-  complete = λ b h calm still. elim (done_or_memory s begun (λ e. still (failed e))) [ inl e ↦ inl (cc (e, made.well b h)) | inr e ↦ inr e ];
+  refuses = λ b h r calm quiet. absurd (refusal_is_not_ok b.status r (made.well b h));
+  complete = λ b h calm quiet still. elim (done_or_memory s begun (λ e. still (failed e))) [ inl e ↦ inl (cc (e, made.well b h)) | inr e ↦ inr e ];
   read_answered = λ answers k. made.answered answers;
+  shelf_answered = λ answers k. made.shelf_answered answers;
   write_answered = answered;
 }
 
+-- what ends a command early with a status: where the status comes from, and what it passes over
+pub record Ending (Answers : Given → Answer → Type 0) (s : Status) (input : Input) (shelf : Storage) (given : Given) : Type 0 where
+  pub told : AreTold input shelf given
+  pub refused : IsRefusal s → Answers given (status_alone s)
+  pub read_failed : s ≡ status.ReadFault → Rose input.faults_before input.faults_after
+  pub shelf_failed : s ≡ status.ShelfFault → Rose shelf.faults_before shelf.faults_after
+  pub complete : (b : Answer) → Answers given b → (Rose input.faults_before input.faults_after → ⊥) → (Rose shelf.faults_before shelf.faults_after → ⊥) → (s ≡ b.status) ⊎ (s ≡ status.Memory)
+  pub answered : IsTrue input.answers_faults → s ≢ status.ReadFault → input.faults_after ≡ input.faults_before
+  pub shelf_answered : IsTrue shelf.answers_faults → s ≢ status.ShelfFault → shelf.faults_after ≡ shelf.faults_before
+
 -- a command ends early with a status that is neither success nor a write fault
-ends_early : (Answers : Given → Answer → Type 0) (s : Status) (input : Input) (given : Given) → AreTold input.old given.input → s ≢ status.Ok → s ≢ status.WriteFault → (IsRefusal s → Answers given (status_alone s)) →
-    (s ≡ status.ReadFault → Rose input.faults_before input.faults_after) → ((b : Answer) → Answers given b → (Rose input.faults_before input.faults_after → ⊥) → (s ≡ b.status) ⊎ (s ≡ status.Memory)) →
-    (IsTrue input.answers_faults → s ≢ status.ReadFault → input.faults_after ≡ input.faults_before) → EndsEarly Answers s input
-ends_early Answers s input given told not_done no_write refused failed complete answered = record {
+ends_early : (Answers : Given → Answer → Type 0) (s : Status) (input : Input) (shelf : Storage) (given : Given) → s ≢ status.Ok → s ≢ status.WriteFault → Ending Answers s input shelf given → EndsEarly Answers s input shelf
+ends_early Answers s input shelf given not_done no_write ending = record {
   not_done = not_done;
   carried_out = λ out written faults. record {
     given = given;
-    told = told;
-    refused = refused;
+    told = ending.told;
+    refused = ending.refused;
     ok = λ e. absurd (not_done e);
     write_fault = λ e. absurd (no_write e);
     memory = λ e. inl written;
-    read_failed = failed;
+    read_failed = ending.read_failed;
+    shelf_failed = ending.shelf_failed;
     write_failed = λ e. absurd (no_write e);
-    refuses = λ b h r calm. complete b h calm;
-    complete = λ b h calm still. complete b h calm;
-    read_answered = answered;
+    refuses = λ b h r calm quiet. ending.complete b h calm quiet;
+    complete = λ b h calm quiet still. ending.complete b h calm quiet;
+    read_answered = ending.answered;
+    shelf_answered = ending.shelf_answered;
     write_answered = λ answers k. faults;
   };
 }
 
 -- so it does for want of memory
-pub memory_ends : (Answers : Given → Answer → Type 0) (input : Input) (given : Given) → AreTold input.old given.input → (IsTrue input.answers_faults → input.faults_after ≡ input.faults_before) → EndsEarly Answers status.Memory input
-memory_ends Answers input given told answered =
-    ends_early Answers status.Memory input given told (λ e. cc) (λ e. cc) (λ r. absurd r) (λ e. absurd cc) (λ b h calm. inr refl) (λ answers k. answered answers)
+pub memory_ends : (Answers : Given → Answer → Type 0) (input : Input) (shelf : Storage) (given : Given) → AreTold input shelf given → (IsTrue input.answers_faults → input.faults_after ≡ input.faults_before) →
+    (IsTrue shelf.answers_faults → shelf.faults_after ≡ shelf.faults_before) → EndsEarly Answers status.Memory input shelf
+memory_ends Answers input shelf given told answered shelf_answered =
+    ends_early Answers status.Memory input shelf given (λ e. cc) (λ e. cc) (record {
+      told = told;
+      refused = λ r. absurd r;
+      read_failed = λ e. absurd cc;
+      shelf_failed = λ e. absurd cc;
+      complete = λ b h calm quiet. inr refl;
+      answered = λ answers k. answered answers;
+      shelf_answered = λ answers k. shelf_answered answers;
+    })
 
 -- so it does by a refusal that is the only answer
-pub refusal_ends : (Answers : Given → Answer → Type 0) (s : Status) (input : Input) (given : Given) → AreTold input.old given.input → IsRefusal s → Answers given (status_alone s) → ((b : Answer) → Answers given b → b.status ≡ s) →
-    (IsTrue input.answers_faults → input.faults_after ≡ input.faults_before) → EndsEarly Answers s input
-refusal_ends Answers s input given told refusal is only answered =
+pub refusal_ends : (Answers : Given → Answer → Type 0) (s : Status) (input : Input) (shelf : Storage) (given : Given) → AreTold input shelf given → IsRefusal s → Answers given (status_alone s) → ((b : Answer) → Answers given b → b.status ≡ s) →
+    (IsTrue input.answers_faults → input.faults_after ≡ input.faults_before) → (IsTrue shelf.answers_faults → shelf.faults_after ≡ shelf.faults_before) → EndsEarly Answers s input shelf
+refusal_ends Answers s input shelf given told refusal is only answered shelf_answered =
     let other : (t : Status) → (IsRefusal t → ⊥) → s ≢ t = λ t free e. free (subst IsRefusal e refusal) in
-    ends_early Answers s input given told (other status.Ok (λ r. r)) (other status.WriteFault (λ r. r)) (λ r. is) (λ e. absurd (other status.ReadFault (λ r. r) e)) (λ b h calm. inl (sym (only b h))) (λ answers k. answered answers)
+    ends_early Answers s input shelf given (other status.Ok (λ r. r)) (other status.WriteFault (λ r. r)) (record {
+      told = told;
+      refused = λ r. is;
+      read_failed = λ e. absurd (other status.ReadFault (λ r. r) e);
+      shelf_failed = λ e. absurd (other status.ShelfFault (λ r. r) e);
+      complete = λ b h calm quiet. inl (sym (only b h));
+      answered = λ answers k. answered answers;
+      shelf_answered = λ answers k. shelf_answered answers;
+    })
 
 -- so it does by a read fault
-pub read_fault_ends : (Answers : Given → Answer → Type 0) (input : Input) (given : Given) → AreTold input.old given.input → Rose input.faults_before input.faults_after → EndsEarly Answers status.ReadFault input
-read_fault_ends Answers input given told rose =
-    ends_early Answers status.ReadFault input given told (λ e. cc) (λ e. cc) (λ r. absurd r) (λ e. rose) (λ b h calm. absurd (calm rose)) (λ answers k. absurd (k refl))
+pub read_fault_ends : (Answers : Given → Answer → Type 0) (input : Input) (shelf : Storage) (given : Given) → AreTold input shelf given → Rose input.faults_before input.faults_after → (IsTrue shelf.answers_faults → shelf.faults_after ≡ shelf.faults_before) → EndsEarly Answers status.ReadFault input shelf
+read_fault_ends Answers input shelf given told rose shelf_answered =
+    ends_early Answers status.ReadFault input shelf given (λ e. cc) (λ e. cc) (record {
+      told = told;
+      refused = λ r. absurd r;
+      read_failed = λ e. rose;
+      shelf_failed = λ e. absurd cc;
+      complete = λ b h calm k. absurd (calm rose);
+      answered = λ answers k. absurd (k refl);
+      shelf_answered = λ answers k. shelf_answered answers;
+    })
+
+-- so it does by a fault of the shelf
+pub shelf_fault_ends : (Answers : Given → Answer → Type 0) (input : Input) (shelf : Storage) (given : Given) → AreTold input shelf given → (IsTrue input.answers_faults → input.faults_after ≡ input.faults_before) →
+    Rose shelf.faults_before shelf.faults_after → EndsEarly Answers status.ShelfFault input shelf
+shelf_fault_ends Answers input shelf given told answered rose =
+    ends_early Answers status.ShelfFault input shelf given (λ e. cc) (λ e. cc) (record {
+      told = told;
+      refused = λ r. absurd r;
+      read_failed = λ e. absurd cc;
+      shelf_failed = λ e. rose;
+      complete = λ b h calm quiet. absurd (quiet rose);
+      answered = λ answers k. answered answers;
+      shelf_answered = λ answers k. absurd (k refl);
+    })
+
+-- an input from which nothing is read, and an output to which nothing is written
+abbrev still_input : Input
+still_input = record { old = None; new = None; faults_before = 0; faults_after = 0; answers_faults = true }
+
+abbrev still_output : Output
+still_output = record { written_before = None; written_after = None; faults_before = 0; faults_after = 0; answers_faults = true }
+
+-- a command that reads no input has no read fault
+pub no_read_fault : (Answers : Given → Answer → Type 0) (s : Status) (shelf : Storage) → EndsUnread Answers s shelf → s ≡ status.ReadFault → ⊥
+no_read_fault Answers s shelf ends e = still_not_rose (((ends still_input refl).carried_out still_output refl refl).read_failed e)
 
 -- ---- words
 
 -- the answers to words that ask for a command are the command's
-pub words_carried : (words : List (List ℕ)) (command : Command) (s : Status) (outside : Outside) → Ok command ≡ command_of words → IsCarriedOut (CommandAnswers command) s outside → IsCarriedOut (WordsAnswer words) s outside
+pub words_carried : (words : List (List ℕ)) (command : Command) (s : Status) (outside : Outside) → Ok command ≡ command_of words → IsCarriedOut (CommandAnswers words command) s outside → IsCarriedOut (WordsAnswer words) s outside
 words_carried words command s outside e carried =
-    subst (λ (r : Result Command WordFault). IsCarriedOut (λ given answer. MatchResult r (λ k. CommandAnswers k given answer) (λ refused. answer ≡ status_alone (status_of_words refused))) s outside) e carried
+    subst (λ (r : Result Command WordFault). IsCarriedOut (λ given answer. MatchResult r (λ k. CommandAnswers words k given answer) (λ refused. answer ≡ status_alone (status_of_words refused))) s outside) e carried
 
 -- words are refused by a refusal
 words_refusal : (fault : WordFault) → IsRefusal (status_of_words fault)
@@ -122,8 +231,8 @@ words_refusal word_fault.Usage = tt
 words_refusal (word_fault.Limit which) = tt
 
 -- the answer to words that ask for no command is their refusal, before the outside is touched
-pub words_refused : (words : List (List ℕ)) (fault : WordFault) (input : Input) → Err fault ≡ command_of words → input.faults_after ≡ input.faults_before → EndsEarly (WordsAnswer words) (status_of_words fault) input
-words_refused words fault input e calm =
-    let given = some_given input.old in
-    subst (λ (r : Result Command WordFault). EndsEarly (λ given answer. MatchResult r (λ k. CommandAnswers k given answer) (λ refused. answer ≡ status_alone (status_of_words refused))) (status_of_words fault) input) e
-    (refusal_ends (λ given answer. answer ≡ status_alone (status_of_words fault)) (status_of_words fault) input given.0 given.1 (words_refusal fault) refl (λ b h. ap (λ (a : Answer). a.status) h) (λ _. calm))
+pub words_refused : (words : List (List ℕ)) (fault : WordFault) (input : Input) (shelf : Storage) → Err fault ≡ command_of words → input.faults_after ≡ input.faults_before → IsCalm shelf → EndsEarly (WordsAnswer words) (status_of_words fault) input shelf
+words_refused words fault input shelf e calm quiet =
+    let given = some_given input shelf in
+    subst (λ (r : Result Command WordFault). EndsEarly (λ given answer. MatchResult r (λ k. CommandAnswers words k given answer) (λ refused. answer ≡ status_alone (status_of_words refused))) (status_of_words fault) input shelf) e
+    (refusal_ends (λ given answer. answer ≡ status_alone (status_of_words fault)) (status_of_words fault) input shelf given.0 given.1 (words_refusal fault) refl (λ b h. ap (λ (a : Answer). a.status) h) (λ _. calm) (λ _. quiet))

@@ -1,4 +1,7 @@
 pub mod AnswerLemmas
+pub mod InputLemmas
 pub mod TidyLemmas
+pub mod OptimisedLemmas
+pub mod OptimiseLemmas
 pub mod WordLemmas
-pub mod TextLemmas
+pub mod RunLemmas

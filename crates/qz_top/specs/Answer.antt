@@ -3,10 +3,11 @@
 use Rattle.std.specs.Prelude.{◌≡◌, ◌≢◌, ℕ, ◌⊎◌, Bool, IsTrue, List, [], Option, Some, None}
 use Rattle.std.specs.Io.KnownBytes.{append_known}
 use Rattle.qz_io.specs.Counts.{Rose}
+use Rattle.qz_io.specs.Files.{Files}
 use Rattle.qz_io.specs.Told.{HasPart}
 use Rattle.qz_io.specs.Transfers.{Input}
 use Rattle.qz_top.specs.declared.status.Status.{Status}
-use Rattle.qz_top.specs.declared.status.Status.TheVariants.{Ok, Memory, ReadFault, WriteFault}
+use Rattle.qz_top.specs.declared.status.Status.TheVariants.{Ok, Memory, ReadFault, WriteFault, ShelfFault}
 use Rattle.qz_top.specs.Status.{IsRefusal}
 
 -- ---- answers
@@ -39,19 +40,40 @@ pub record Output : Type 0 where
 abbrev pub output_of : {S : Type 0} → (S → Option (List ℕ)) → (S → ℕ) → Bool → S → S → Output
 output_of written faults answers_faults before after = record { written_before = written before; written_after = written after; faults_before = faults before; faults_after = faults after; answers_faults = answers_faults }
 
+-- what a call shows of a shelf: its files, where it tells them; how often it has failed, before and after; whether each fault is answered
+pub record Storage : Type 0 where
+  pub files : Option Files
+  pub faults_before : ℕ
+  pub faults_after : ℕ
+  pub answers_faults : Bool
+
+-- what a call shows of a shelf, of which these tell the files and how often it has failed
+abbrev pub storage_of : {S : Type 0} → (S → Option Files) → (S → ℕ) → Bool → S → S → Storage
+storage_of files faults answers_faults before after = record { files = files before; faults_before = faults before; faults_after = faults after; answers_faults = answers_faults }
+
 -- what a call shows of the outside
 pub record Outside : Type 0 where
   pub input : Input
+  pub shelf : Storage
   pub out : Output
 
--- what a command is given by the outside: the bytes that the input has left
+-- what a command is given by the outside: the bytes that the input has left, and the files of the shelf
 pub record Given : Type 0 where
   pub input : List ℕ
+  pub files : Files
 
--- the bytes are those that are told, where they are told
-abbrev pub AreTold : Option (List ℕ) → List ℕ → Type 0
-AreTold None bytes = Unit {0}
-AreTold (Some told) bytes = told ≡ bytes
+-- what is given is what is told, where it is told
+abbrev pub IsTold : {A : Type 0} → Option A → A → Type 0
+IsTold None given = Unit {0}
+IsTold (Some told) given = told ≡ given
+
+-- so are the bytes of the input and the files of the shelf
+abbrev pub AreTold : Input → Storage → Given → Type 0
+AreTold input shelf given = IsTold input.old given.input × IsTold shelf.files given.files
+
+-- no fault of the shelf is counted
+abbrev pub IsCalm : Storage → Type 0
+IsCalm shelf = shelf.faults_after ≡ shelf.faults_before
 
 -- ---- when a command is carried out
 
@@ -73,20 +95,22 @@ pub record WritesPart (Answers : Answer → Type 0) (out : Output) : Type 0 wher
 -- the command is carried out as for something that may have been given.
 pub record IsCarriedOut (Answers : Given → Answer → Type 0) (status : Status) (outside : Outside) : Type 0 where
   pub given : Given
-  pub told : AreTold outside.input.old given.input
+  pub told : AreTold outside.input outside.shelf given
   -- it is refused only where that is the answer
   pub refused : IsRefusal status → Answers given (status_alone status)
   -- the whole text is written, or a prefix of it; where memory runs out, perhaps nothing
   pub ok : status ≡ Ok → Writes (Answers given) outside.out
   pub write_fault : status ≡ WriteFault → WritesPart (Answers given) outside.out
   pub memory : status ≡ Memory → (outside.out.written_after ≡ outside.out.written_before) ⊎ WritesPart (Answers given) outside.out
-  -- there is a read fault or a write fault only where the input's or the output's count of faults rose
+  -- there is a read fault, a fault of the shelf or a write fault only where the count of faults rose of the input, the shelf or the output
   pub read_failed : status ≡ ReadFault → Rose outside.input.faults_before outside.input.faults_after
+  pub shelf_failed : status ≡ ShelfFault → Rose outside.shelf.faults_before outside.shelf.faults_after
   pub write_failed : status ≡ WriteFault → Rose outside.out.faults_before outside.out.faults_after
-  -- where the answer is a refusal and the input's count did not rise, it comes, or memory ran out
-  pub refuses : (answer : Answer) → Answers given answer → IsRefusal answer.status → (Rose outside.input.faults_before outside.input.faults_after → ⊥) → (status ≡ answer.status) ⊎ (status ≡ Memory)
-  -- where neither count rose, the status is that of the answer, or memory ran out
-  pub complete : (answer : Answer) → Answers given answer → (Rose outside.input.faults_before outside.input.faults_after → ⊥) → (Rose outside.out.faults_before outside.out.faults_after → ⊥) → (status ≡ answer.status) ⊎ (status ≡ Memory)
+  -- where the answer is a refusal, and neither the input's count nor the shelf's rose, it comes, or memory ran out
+  pub refuses : (answer : Answer) → Answers given answer → IsRefusal answer.status → (Rose outside.input.faults_before outside.input.faults_after → ⊥) → (Rose outside.shelf.faults_before outside.shelf.faults_after → ⊥) → (status ≡ answer.status) ⊎ (status ≡ Memory)
+  -- where no count rose, the status is that of the answer, or memory ran out
+  pub complete : (answer : Answer) → Answers given answer → (Rose outside.input.faults_before outside.input.faults_after → ⊥) → (Rose outside.shelf.faults_before outside.shelf.faults_after → ⊥) → (Rose outside.out.faults_before outside.out.faults_after → ⊥) → (status ≡ answer.status) ⊎ (status ≡ Memory)
   -- where each fault is answered, none is passed over
   pub read_answered : IsTrue outside.input.answers_faults → status ≢ ReadFault → outside.input.faults_after ≡ outside.input.faults_before
+  pub shelf_answered : IsTrue outside.shelf.answers_faults → status ≢ ShelfFault → outside.shelf.faults_after ≡ outside.shelf.faults_before
   pub write_answered : IsTrue outside.out.answers_faults → status ≢ WriteFault → outside.out.faults_after ≡ outside.out.faults_before

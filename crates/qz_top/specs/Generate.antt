@@ -6,7 +6,7 @@ use Rattle.qz_circ.specs.Classes.{IsClassList, HasEquivalentMembers}
 use Rattle.qz_circ.specs.Joined.{JoinsEquivalent}
 use Rattle.qz_top.specs.declared.status.Status.TheVariants.{Ok}
 use Rattle.qz_top.specs.Answer.{Answer}
-use Rattle.qz_top.specs.RuleText.{rule_text}
+use Rattle.qz_circ.specs.RuleText.{rule_text}
 
 -- an answer of a generation within lawful limits: done, with the text of the rule file of a class list of the limits
 pub record Generates (b : Limits) (answer : Answer) : Type 0 where

@@ -1,8 +1,10 @@
 pub mod Words
-pub mod RuleText
 pub mod Status
 pub mod Answer
 pub mod Making
 pub mod Generate
+pub mod Inputs
 pub mod Tidy
+pub mod Optimise
 pub mod Run
+pub mod Optimised

@@ -1,7 +1,9 @@
 -- The numbers of statuses.
 use Rattle.std.specs.Prelude.{ℕ}
+use Rattle.qz_circ.specs.declared.fault.Which.{Which}
+use Rattle.qz_circ.specs.declared.fault.Which.TheVariants.{BoundsQubits, BoundsGates, BoundsParams, BoundsCircuits, RuleBytes}
 use Rattle.qz_top.specs.declared.status.Status.{Status}
-use Rattle.qz_top.specs.declared.status.Status.TheVariants.{Ok, Memory, Usage, Limit, Qasm, ReadFault, WriteFault}
+use Rattle.qz_top.specs.declared.status.Status.TheVariants.{Ok, Memory, Usage, Limit, Qasm, RuleSyntax, Unsound, NoFile, ReadFault, WriteFault, ShelfFault}
 
 -- the number that the program ends with
 abbrev pub status_number : Status → ℕ
@@ -10,25 +12,60 @@ status_number Memory = 1
 status_number Usage = 2
 status_number (Limit which) = 3
 status_number (Qasm fault) = 4
+status_number (RuleSyntax place) = 5
+status_number (Unsound class member) = 6
+status_number NoFile = 7
 status_number ReadFault = 8
 status_number WriteFault = 9
+status_number ShelfFault = 10
 
--- a status that refuses the words or the input
+-- a status that refuses the words, the rule file or the input
 abbrev pub IsRefusal : Status → Type 0
 IsRefusal Ok = ⊥
 IsRefusal Memory = ⊥
 IsRefusal Usage = Unit {0}
 IsRefusal (Limit which) = Unit {0}
 IsRefusal (Qasm fault) = Unit {0}
+IsRefusal (RuleSyntax place) = Unit {0}
+IsRefusal (Unsound class member) = Unit {0}
+IsRefusal NoFile = Unit {0}
 IsRefusal ReadFault = ⊥
 IsRefusal WriteFault = ⊥
+IsRefusal ShelfFault = ⊥
 
--- a status at which nothing is written: a refusal, or the input failed
+-- a status at which nothing is written: a refusal, or the input or the shelf failed
 abbrev pub WritesNothing : Status → Type 0
 WritesNothing Ok = ⊥
 WritesNothing Memory = ⊥
 WritesNothing Usage = Unit {0}
 WritesNothing (Limit which) = Unit {0}
 WritesNothing (Qasm fault) = Unit {0}
+WritesNothing (RuleSyntax place) = Unit {0}
+WritesNothing (Unsound class member) = Unit {0}
+WritesNothing NoFile = Unit {0}
 WritesNothing ReadFault = Unit {0}
 WritesNothing WriteFault = ⊥
+WritesNothing ShelfFault = Unit {0}
+
+-- a limit of bounds or of the size of a rule file
+abbrev pub IsLimitOfRules : Which → Type 0
+IsLimitOfRules BoundsQubits = Unit {0}
+IsLimitOfRules BoundsGates = Unit {0}
+IsLimitOfRules BoundsParams = Unit {0}
+IsLimitOfRules BoundsCircuits = Unit {0}
+IsLimitOfRules RuleBytes = Unit {0}
+IsLimitOfRules _ = ⊥
+
+-- a status that the words, the shelf or the rules decide, before any input is needed
+abbrev pub IsBeforeInput : Status → Type 0
+IsBeforeInput Ok = ⊥
+IsBeforeInput Memory = ⊥
+IsBeforeInput Usage = Unit {0}
+IsBeforeInput (Limit which) = IsLimitOfRules which
+IsBeforeInput (Qasm fault) = ⊥
+IsBeforeInput (RuleSyntax place) = Unit {0}
+IsBeforeInput (Unsound class member) = Unit {0}
+IsBeforeInput NoFile = Unit {0}
+IsBeforeInput ReadFault = ⊥
+IsBeforeInput WriteFault = ⊥
+IsBeforeInput ShelfFault = Unit {0}

@@ -10,7 +10,7 @@ use Rattle.qz_circ.specs.declared.fault.Which.TheVariants.{BoundsQubits, BoundsG
 use Rattle.qz_circ.specs.Circuit.{Limits}
 use Rattle.qz_circ.specs.Bounds.{refusal}
 use Rattle.qz_top.specs.declared.words.Command.{Command}
-use Rattle.qz_top.specs.declared.words.Command.TheVariants.{Generate, Tidy}
+use Rattle.qz_top.specs.declared.words.Command.TheVariants.{Generate, Tidy, Optimise}
 use Rattle.qz_top.specs.declared.words.WordFault.{WordFault}
 use Rattle.qz_top.specs.declared.words.WordFault.TheVariants.{Usage, Limit}
 
@@ -59,6 +59,17 @@ unfoldable pub asks_to_tidy : List (List ℕ) → Bool
 asks_to_tidy (command ∷ []) = bytes_eq command (codes "tidy")
 asks_to_tidy words = false
 
+-- the number of the word that names the rule file, counted from 0, where the words ask to optimise; the name isn't empty
+unfoldable pub rules_word : List (List ℕ) → Option ℕ
+rules_word (command ∷ option ∷ file ∷ []) =
+    if bytes_eq command (codes "optimise") && bytes_eq option (codes "--rules") && nat_lt 0 (length file) then Some 2 else None
+rules_word words = None
+
+-- to optimise by the rules in the file that this word names, if it is one
+abbrev pub optimisation_or : Option ℕ → Result Command WordFault → Result Command WordFault
+optimisation_or None other = other
+optimisation_or (Some rules) other = Ok (Optimise rules)
+
 -- the command that the words ask for; or that they are in no written form; or that a number passes this limit
 unfoldable pub command_of : List (List ℕ) → Result Command WordFault
-command_of words = if asks_to_tidy words then Ok Tidy else command_asked (asked words)
+command_of words = if asks_to_tidy words then Ok Tidy else optimisation_or (rules_word words) (command_asked (asked words))

@@ -2,7 +2,8 @@
 #![tactic(auto)]
 
 pub mod generate;
-pub mod rule_text;
+mod inputs;
+mod optimise;
 pub mod run;
 pub mod status;
 pub mod tidy;

@@ -12,14 +12,23 @@ pub enum Status {
     Memory,
     /// The words are in no written form.
     Usage,
-    /// A number, the input or its program passes this limit.
+    /// A number, the rule file, the input or its program passes this limit.
     Limit(Which),
     /// The input is no program: its first fault, which is neither a limit nor want of memory.
     Qasm(QasmFault),
+    /// The rule file is none: the longest front of it with which some rule file begins ends at this place.
+    RuleSyntax { place: u64 },
+    /// In the rule file this member, the first such one, isn't equivalent to the first member of its class. Both are counted
+    /// from 1.
+    Unsound { class: u64, member: u64 },
+    /// There is no file with the rule file's name.
+    NoFile,
     /// Reading the input failed.
     ReadFault,
     /// Writing failed.
     WriteFault,
+    /// Opening or reading the rule file failed.
+    ShelfFault,
 }
 
 impl Status {
@@ -35,8 +44,12 @@ impl Status {
             Status::Usage => 2,
             Status::Limit(_) => 3,
             Status::Qasm(_) => 4,
+            Status::RuleSyntax { .. } => 5,
+            Status::Unsound { .. } => 6,
+            Status::NoFile => 7,
             Status::ReadFault => 8,
             Status::WriteFault => 9,
+            Status::ShelfFault => 10,
         }
     }
 }

@@ -1,8 +1,8 @@
 //! The words of a command: what they ask for, and why they are refused.
-ghost use Rattle.std.specs.Prelude.{◌≡◌, map, string_bytes};
+ghost use Rattle.std.specs.Prelude.{◌≡◌, ℕ, ◌<◌, length, map, string_bytes, IfSome};
 ghost use Rattle.std.specs.Option.{option_map};
 ghost use Rattle.qz_circ.specs.Bounds.{refusal};
-ghost use Rattle.qz_top.specs.Words.{number_of, limits_of, which_of, asked, generation, asks_to_tidy, command_of};
+ghost use Rattle.qz_top.specs.Words.{number_of, limits_of, which_of, asked, generation, asks_to_tidy, rules_word, optimisation_or, command_of};
 
 use qz_circ::{Bounds, LimitFault, Which};
 
@@ -13,6 +13,9 @@ pub enum Command {
     Generate { bounds: Bounds },
     /// To write the canonical text of the program that the input is.
     Tidy,
+    /// To optimise the program that the input is by the rules in a file. This is the number of the word that names the file,
+    /// counted from 0 and below the number of words.
+    Optimise { rules: usize },
 }
 
 /// Why words are no command that can be carried out.
@@ -47,7 +50,7 @@ fn number(word: &str) -> Option<u64>
 }
 
 // The limit that a refused number passes.
-fn limit_of(fault: LimitFault) -> Which
+pub(crate) fn limit_of(fault: LimitFault) -> Which
     ensures { result ≡ which_of fault }
 {
     match fault {
@@ -101,13 +104,38 @@ fn asks_to_tidy(words: &[String]) -> bool
     command.as_str() == "tidy"
 }
 
+// The number of the word that names the rule file, where the words ask to optimise.
+#[tactic(auto, unfolding(crate::specs::Words::rules_word))]
+fn rules_word(words: &[String]) -> Option<usize>
+    ensures word { result ≡ rules_word (map string_bytes words.now) }
+    ensures within { IfSome result (λ k. k < length words.now) }
+{
+    let [command, option, file] = words else {
+        return None;
+    };
+    if command.as_str() != "optimise" {
+        return None;
+    }
+    if option.as_str() != "--rules" {
+        return None;
+    }
+    if file.as_str().is_empty() {
+        return None;
+    }
+    Some(2)
+}
+
 /// What the words ask for. Takes no memory.
 #[tactic(auto, unfolding(crate::specs::Words::command_of))]
 pub fn read_words(words: &[String]) -> Result<Command, WordFault>
-    ensures { result ≡ command_of (map string_bytes words.now) }
+    ensures command { result ≡ command_of (map string_bytes words.now) }
+    ensures within { (k : ℕ) → result ≡ Ok (Command.Optimise k) → k < length words.now }
 {
     if asks_to_tidy(words) {
         return Ok(Command::Tidy);
+    }
+    if let Some(rules) = rules_word(words) {
+        return Ok(Command::Optimise { rules });
     }
     let Some((n, q, m)) = asked_numbers(words) else {
         return Err(WordFault::Usage);

@@ -1,12 +1,25 @@
-//! How the text of a command is handed to the output.
-ghost use Rattle.std.specs.Prelude.{◌≡◌, ◌≢◌, ◌≤◌, IsTrue};
+//! How the text of a command is made and handed to the output.
+ghost use Rattle.std.specs.Prelude.{◌≡◌, ◌≢◌, ◌≤◌, IsTrue, MatchResult};
 ghost use Rattle.std.specs.Io.KnownBytes.{append_known};
+ghost use Rattle.qz_circ.specs.ProgramText.{program_text};
+ghost use Rattle.qz_circ.specs.ValidPrograms.{Valid};
 ghost use Rattle.qz_io.specs.Counts.{Rose};
 ghost use Rattle.qz_io.specs.Told.{HasPart};
 ghost use Rattle.qz_top.specs.Status.{WritesNothing};
 
 use crate::status::Status;
+use qz_circ::Program;
 use qz_io::{IoFault, Sink, deliver};
+use qz_qwrite::write;
+use std::alloc::Global;
+
+// The canonical text of a program.
+pub(crate) fn text_of(alloc: Global, program: &Program) -> Result<Vec<u8>, Status>
+    requires { Valid program.now }
+    ensures { MatchResult result (λ text. text.items ≡ program_text program.now) (λ status. status ≡ Status.Memory) }
+{
+    write(alloc, program).map_err(|_| Status::Memory)
+}
 
 // Writes the whole text.
 pub(crate) fn write_text<O: Sink>(text: &[u8], out: &mut O) -> Status

@@ -6,8 +6,8 @@ use Rattle.qz_top.proofs.AnswerLemmas.{some_given, memory_ends, carried_by_text}
 use Rattle.qz_top.proofs.generate.generate.Goals as goal
 
 pub returns-clause-carried_out : goal.returns-clause-carried_out
-returns-clause-carried_out g c = λ input calm.
-    let given = some_given input.old in
+returns-clause-carried_out g c = λ input shelf calm quiet.
+    let given = some_given input shelf in
     let rules = c.in-Ok.ensures in
     carried_by_text (λ _. Generates c.args.b) c.in-Ok.text.items _ _
     (record {
@@ -16,6 +16,7 @@ returns-clause-carried_out g c = λ input calm.
       is_answer = record { classes = rules.classes; class_list = rules.class_list; done = refl; out = rules.text_is; err = refl };
       well = λ a h. h.done;
       answered = λ _. calm;
+      shelf_answered = λ _. quiet;
     })
     c.write_text.ensures.begun
     (λ e. c.write_text.ensures.ok e ∙ ap (append_known (g.O.Sink.written c.args.out.now)) c.deref.ensures.value)
@@ -23,6 +24,6 @@ returns-clause-carried_out g c = λ input calm.
     c.write_text.ensures.failed c.write_text.ensures.answered
 
 pub returns-in_default-clause-carried_out : goal.returns-in_default-clause-carried_out
-returns-in_default-clause-carried_out g c = λ input calm.
-    let given = some_given input.old in
-    (memory_ends (λ _. Generates c.args.b) input given.0 given.1 (λ _. calm)).carried_out _ refl refl
+returns-in_default-clause-carried_out g c = λ input shelf calm quiet.
+    let given = some_given input shelf in
+    (memory_ends (λ _. Generates c.args.b) input shelf given.0 given.1 (λ _. calm) (λ _. quiet)).carried_out _ refl refl

@@ -1,0 +1,79 @@
+-- The command that optimises a program by the rules of a file.
+use Rattle.std.specs.Prelude.{◌≡◌, ℕ, ◌<◌, ◌≤◌, ◌⊎◌, List, length, Option, Some, None, Result, Ok, Err}
+use Rattle.qz_circ.specs.declared.fault.RuleFault.{RuleFault}
+use Rattle.qz_circ.specs.declared.fault.RuleFault.TheVariants as fault
+use Rattle.qz_circ.specs.declared.fault.Which.TheVariants.{RuleBytes}
+use Rattle.qz_circ.specs.Circuit.{Circuit}
+use Rattle.qz_circ.specs.ProgramCircuits.{ProgramCircuit}
+use Rattle.qz_circ.specs.Programs.{ProgramParts}
+use Rattle.qz_circ.specs.ProgramText.{program_text}
+use Rattle.qz_circ.specs.Replacement.{children}
+use Rattle.qz_circ.specs.RuleFiles.{RuleClasses, Reads}
+use Rattle.qz_circ.specs.Search.{PlanNumbers, best_found}
+use Rattle.qz_io.specs.declared.fault.IoFault.{IoFault}
+use Rattle.qz_io.specs.declared.fault.IoFault.TheVariants as opening
+use Rattle.qz_io.specs.declared.transfers.Unread.{Unread}
+use Rattle.qz_io.specs.declared.transfers.Unread.TheVariants as unread
+use Rattle.qz_top.specs.declared.status.Status.{Status}
+use Rattle.qz_top.specs.declared.status.Status.TheVariants as status
+use Rattle.qz_top.specs.Answer.{Answer, Given, status_alone}
+use Rattle.qz_top.specs.Inputs.{input_answer}
+use Rattle.qz_top.specs.Words.{which_of}
+
+-- how many bytes a rule file has at most
+abbrev pub most_rule_bytes : ℕ
+most_rule_bytes = 134217728
+
+-- the status of a fault of a rule file; want of memory has its own
+abbrev pub status_of_rule_fault : RuleFault → Status
+status_of_rule_fault (fault.Syntax place) = status.RuleSyntax place
+status_of_rule_fault (fault.Limit refused) = status.Limit (which_of refused)
+status_of_rule_fault (fault.Unsound class member) = status.Unsound class member
+status_of_rule_fault fault.Memory = status.Memory
+
+-- the status where a rule file isn't read whole
+abbrev pub status_of_unread_file : Unread → Status
+status_of_unread_file unread.TooLong = status.Limit RuleBytes
+status_of_unread_file unread.Failed = status.ShelfFault
+status_of_unread_file unread.Memory = status.Memory
+
+-- the status where a rule file isn't opened
+abbrev pub status_of_opening : IoFault → Status
+status_of_opening opening.Failed = status.ShelfFault
+status_of_opening opening.Memory = status.Memory
+
+-- the plan of a search where the words give none: 16 rounds that take 8 circuits each, a queue of 100, and no slack
+abbrev pub default_plan : PlanNumbers
+default_plan = record { rounds = 16; batch = 8; cap = 100; slack = 0 }
+
+-- the circuit that the search with these classes and the default plan finds
+abbrev pub found_circuit : List (List Circuit) → ProgramCircuit → ProgramCircuit
+found_circuit classes c = best_found (children classes) default_plan c
+
+-- the program with this circuit in place of its gates
+abbrev pub with_circuit : ProgramParts → ProgramCircuit → ProgramParts
+with_circuit p c = record p { gates = c }
+
+-- the text of a program that is optimised by these rules
+abbrev pub optimised_text : RuleClasses → ProgramParts → List ℕ
+optimised_text rules p = program_text (with_circuit p (found_circuit rules.classes p.gates))
+
+-- the answers to what a rule file says: its fault; or with rules, the answer to the input
+abbrev pub RulesAnswer : Given → Result RuleClasses RuleFault → Answer → Type 0
+RulesAnswer given (Ok rules) answer = answer ≡ input_answer (optimised_text rules) given.input
+RulesAnswer given (Err e) answer = answer ≡ status_alone (status_of_rule_fault e)
+
+-- the answers to a rule file: that it is too long, or those to what it says
+abbrev pub FileAnswer : Given → List ℕ → Answer → Type 0
+FileAnswer given file answer =
+    ((most_rule_bytes < length file) × (answer ≡ status_alone (status.Limit RuleBytes))) ⊎
+    ((length file ≤ most_rule_bytes) × ((said : Result RuleClasses RuleFault) × Reads file said × RulesAnswer given said answer))
+
+-- the answers to the file with a name: that there is none, or those to its bytes
+abbrev pub NamedAnswer : Given → Option (List ℕ) → Answer → Type 0
+NamedAnswer given None answer = answer ≡ status_alone status.NoFile
+NamedAnswer given (Some file) answer = FileAnswer given file answer
+
+-- the answers to what is given, with the rule file of this name
+abbrev pub Optimises : List ℕ → Given → Answer → Type 0
+Optimises name given answer = NamedAnswer given (given.files name) answer

@@ -1,0 +1,201 @@
+//! The command that optimises a program by the rules of a file.
+ghost use Rattle.std.specs.Prelude.{◌≡◌, ℕ, ◌+◌, ◌≤◌, ◌⊎◌, List, IsTrue, Ok, Err, IfOk, IfErr, OnOk, MatchResult};
+ghost use Rattle.std.specs.Io.KnownBytes.{IsAtEnd};
+ghost use Rattle.qz_circ.specs.RuleFiles.{Reads};
+ghost use Rattle.qz_circ.specs.declared.fault.RuleFault.{RuleFault};
+ghost use Rattle.qz_circ.specs.ValidPrograms.{Valid};
+ghost use Rattle.qz_io.specs.Told.{TakesBytes};
+ghost use Rattle.qz_io.specs.Transfers.{input_of};
+ghost use Rattle.qz_top.specs.Answer.{Storage, storage_of, output_of, IsCarriedOut};
+ghost use Rattle.qz_top.specs.Inputs.{most_input_bytes};
+ghost use Rattle.qz_top.specs.Making.{EndsEarly, EndsUnread, IsOpened, AreRulesRead, HasRules, IsMadeOfInput, EndsByInput};
+ghost use Rattle.qz_top.specs.Optimise.{status_of_rule_fault, status_of_unread_file, status_of_opening, default_plan, Optimises};
+ghost use Rattle.qz_top.specs.Optimised.{IsFound, IsOptimised, IsOptimisedBy, WritesOptimised};
+ghost use Rattle.qz_top.specs.Status.{IsBeforeInput, WritesNothing};
+
+use crate::inputs::program_in;
+use crate::status::Status;
+use crate::words::limit_of;
+use crate::writing::{text_of, write_text};
+use qz_circ::{Inst, Memory, Program, RuleFault, Which};
+use qz_io::{IoFault, Shelf, Sink, Source, Unread, read_file};
+use qz_rulefile::{Rules, read};
+use qz_search::{Plan, search};
+use std::alloc::Global;
+
+// How many bytes a rule file has at most.
+const LIMIT: u64 = 134_217_728;
+
+// The status of a fault of a rule file. Want of memory has a status of its own.
+fn status_of_rule_fault(fault: RuleFault) -> Status
+    ensures { result ≡ status_of_rule_fault fault }
+{
+    match fault {
+        RuleFault::Syntax { place } => Status::RuleSyntax { place },
+        RuleFault::Limit(refused) => Status::Limit(limit_of(refused)),
+        RuleFault::Unsound { class, member } => Status::Unsound { class, member },
+        RuleFault::Memory => Status::Memory,
+    }
+}
+
+// The status where a rule file isn't read whole.
+fn status_of_unread_file(unread: Unread) -> Status
+    ensures { result ≡ status_of_unread_file unread }
+{
+    match unread {
+        Unread::TooLong => Status::Limit(Which::RuleBytes),
+        Unread::Failed => Status::ShelfFault,
+        Unread::Memory => Status::Memory,
+    }
+}
+
+// The status where a rule file isn't opened.
+fn status_of_opening(fault: IoFault) -> Status
+    ensures { result ≡ status_of_opening fault }
+{
+    match fault {
+        IoFault::Failed => Status::ShelfFault,
+        IoFault::Memory => Status::Memory,
+    }
+}
+
+// The rules that the bytes of a file say; or the status of their first fault, or that memory ran out.
+fn rules_of(alloc: Global, bytes: &[u8]) -> Result<Rules, Status>
+    ensures { MatchResult result (λ rules. Reads bytes.now (Ok rules)) (λ status. ((e : RuleFault) × Reads bytes.now (Err e) × (status ≡ status_of_rule_fault e)) ⊎ (status ≡ Status.Memory)) }
+{
+    match read(alloc, bytes) {
+        Ok(rules) => Ok(rules),
+        Err(fault) => Err(status_of_rule_fault(fault)),
+    }
+}
+
+// Reads the rules in the open file; or gives the status that the command ends with before it has them.
+fn rules_in_open_file<F: Shelf>(alloc: Global, shelf: &mut F) -> Result<Rules, Status>
+    requires { IsTrue (F.is_open shelf.old) }
+    // Whatever name it was opened by.
+    ensures made { (name : List ℕ) (opened : Storage) → IsOpened name (F.rest shelf.old) opened → opened.faults_after ≡ F.faults shelf.old → opened.answers_faults ≡ F.answers_faults →
+        let shown : Storage = record { files = opened.files; faults_before = opened.faults_before; faults_after = F.faults shelf.new; answers_faults = F.answers_faults } in
+        MatchResult result (λ rules. AreRulesRead name rules shown) (λ status. EndsUnread (Optimises name) status shown) }
+    ensures files { F.files shelf.new ≡ F.files shelf.old }
+    ensures faults { F.faults shelf.old ≤ F.faults shelf.new }
+{
+    match read_file(alloc, shelf, LIMIT) {
+        Ok(bytes) => rules_of(alloc, &bytes),
+        Err(unread) => Err(status_of_unread_file(unread)),
+    }
+}
+
+// Reads the rules in the file with this name; or gives the status that the command ends with before it has them.
+fn rules_in<F: Shelf>(alloc: Global, name: &str, shelf: &mut F) -> Result<Rules, Status>
+    ensures made { let shown = storage_of F.files F.faults F.answers_faults shelf.old shelf.new in
+        MatchResult result (λ rules. AreRulesRead name.now rules shown) (λ status. EndsUnread (Optimises name.now) status shown) }
+    ensures files { F.files shelf.new ≡ F.files shelf.old }
+    ensures faults { F.faults shelf.old ≤ F.faults shelf.new }
+{
+    match shelf.open(name) {
+        Ok(true) => rules_in_open_file(alloc, shelf),
+        Ok(false) => Err(Status::NoFile),
+        Err(fault) => Err(status_of_opening(fault)),
+    }
+}
+
+// The plan of a search where the words give none.
+fn default_plan() -> Plan
+    ensures { result ≡ default_plan }
+{
+    Plan::new(16, 8, 100, 0).unwrap()
+}
+
+// The circuit that the search by these rules and the default plan finds from a program's.
+fn found(alloc: Global, rules: &Rules, program: &Program) -> Result<Vec<Inst>, Memory>
+    requires { Valid program.now }
+    ensures { IfOk result (λ circuit. IsFound rules.now program.now circuit.items) }
+{
+    search(alloc, rules, program.gates(), default_plan())
+}
+
+// The text of the program with such a circuit as its gates, unless memory runs out.
+fn optimised(alloc: Global, rules: &Rules, program: Program) -> Result<Vec<u8>, Status>
+    requires { Valid program }
+    ensures { MatchResult result (λ text. IsOptimised rules.now program text.items) (λ status. status ≡ Status.Memory) }
+{
+    let Ok(circuit) = found(alloc, rules, &program) else {
+        return Err(Status::Memory);
+    };
+    let changed = program.with_gates(circuit);
+    text_of(alloc, &changed)
+}
+
+// Reads the input, and gives the text for the output; or the status that the command ends with before it writes.
+fn optimised_input<I: Source>(
+    alloc: Global,
+    rules: &Rules,
+    input: &mut I,
+) -> Result<Vec<u8>, Status>
+    ensures made { let shown = input_of I.left I.faults I.answers_faults input.old input.new in
+        MatchResult result (λ text. IsMadeOfInput (λ program. IsOptimised rules.now program text.items) shown) (λ status. EndsByInput status shown) }
+    ensures at_end { OnOk result (IsAtEnd (I.left input.new)) }
+    ensures taken { TakesBytes (I.left input.old) (I.left input.new) (λ n. n ≤ most_input_bytes + 1) }
+    ensures faults { I.faults input.old ≤ I.faults input.new }
+{
+    match program_in(alloc, input) {
+        Ok(program) => optimised(alloc, rules, program),
+        Err(status) => Err(status),
+    }
+}
+
+// Reads the rules and then the input, and gives the text for the output; or the status that the command ends with before it writes.
+fn optimised_by<I: Source, F: Shelf>(
+    alloc: Global,
+    name: &str,
+    input: &mut I,
+    shelf: &mut F,
+) -> Result<Vec<u8>, Status>
+    ensures made { let input_shown = input_of I.left I.faults I.answers_faults input.old input.new in
+        let shelf_shown = storage_of F.files F.faults F.answers_faults shelf.old shelf.new in
+        MatchResult result (λ text. IsOptimisedBy name.now text.items input_shown shelf_shown) (λ status. EndsEarly (Optimises name.now) status input_shown shelf_shown) }
+    ensures at_end { OnOk result (IsAtEnd (I.left input.new)) }
+    ensures taken { TakesBytes (I.left input.old) (I.left input.new) (λ n. n ≤ most_input_bytes + 1) }
+    ensures unread { (input.new ≡ input.old) ⊎ HasRules name.now (storage_of F.files F.faults F.answers_faults shelf.old shelf.new) }
+    ensures before { IfErr result (λ status. IsBeforeInput status → input.new ≡ input.old) }
+    ensures read_fault { result ≡ Err Status.ReadFault → HasRules name.now (storage_of F.files F.faults F.answers_faults shelf.old shelf.new) }
+    ensures files { F.files shelf.new ≡ F.files shelf.old }
+    ensures input_faults { I.faults input.old ≤ I.faults input.new }
+    ensures shelf_faults { F.faults shelf.old ≤ F.faults shelf.new }
+{
+    match rules_in(alloc, name, shelf) {
+        Ok(rules) => optimised_input(alloc, &rules, input),
+        Err(status) => Err(status),
+    }
+}
+
+// Reads the rules in the file with this name and then the input, each to its end, and writes the text of the input's program
+// with the circuit of the search as its gates.
+pub(crate) fn optimise<I: Source, F: Shelf, O: Sink>(
+    alloc: Global,
+    name: &str,
+    input: &mut I,
+    shelf: &mut F,
+    out: &mut O,
+) -> Status
+    ensures carried_out { IsCarriedOut (Optimises name.now) result
+        (record { input = input_of I.left I.faults I.answers_faults input.old input.new; shelf = storage_of F.files F.faults F.answers_faults shelf.old shelf.new; out = output_of O.written O.faults O.answers_faults out.old out.new }) }
+    ensures optimised { result ≡ Status.Ok → WritesOptimised name.now
+        (record { input = input_of I.left I.faults I.answers_faults input.old input.new; shelf = storage_of F.files F.faults F.answers_faults shelf.old shelf.new; out = output_of O.written O.faults O.answers_faults out.old out.new }) }
+    ensures at_end { result ≡ Status.Ok → IsAtEnd (I.left input.new) }
+    ensures taken { TakesBytes (I.left input.old) (I.left input.new) (λ n. n ≤ most_input_bytes + 1) }
+    ensures unread { (input.new ≡ input.old) ⊎ HasRules name.now (storage_of F.files F.faults F.answers_faults shelf.old shelf.new) }
+    ensures before { IsBeforeInput result → input.new ≡ input.old }
+    ensures read_fault { result ≡ Status.ReadFault → HasRules name.now (storage_of F.files F.faults F.answers_faults shelf.old shelf.new) }
+    ensures untouched { WritesNothing result → out.new ≡ out.old }
+    ensures files { F.files shelf.new ≡ F.files shelf.old }
+    ensures input_faults { I.faults input.old ≤ I.faults input.new }
+    ensures shelf_faults { F.faults shelf.old ≤ F.faults shelf.new }
+    ensures faults { O.faults out.old ≤ O.faults out.new }
+    ensures wants { O.wants out.old ≤ O.wants out.new }
+{
+    match optimised_by(alloc, name, input, shelf) {
+        Ok(text) => write_text(&text, out),
+        Err(status) => status,
+    }
+}
