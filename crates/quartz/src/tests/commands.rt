@@ -9,7 +9,7 @@ use std::str;
 use std::test::Fail;
 
 // The rules of the identities of at most two gates on one qubit.
-fn two_gates() -> &'static str {
+pub(super) fn two_gates() -> &'static str {
     "quartz-rules 1\n\
 bounds 2 1 0\n\
 classes 17\n\

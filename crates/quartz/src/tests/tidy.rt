@@ -94,7 +94,8 @@ fn tidies_statement(
     Ok(())
 }
 
-fn two_registers() -> &'static [u8] {
+// Two registers of qubits, one of bits, and a tail.
+pub(super) fn two_registers() -> &'static [u8] {
     b"OPENQASM 2.0;\n\
 include \"qelib1.inc\";\n\
 qreg q[2];\n\

@@ -1,0 +1,409 @@
+//! What `optimise` writes for some programs, why it refuses some rule files without reading the input, and how it ends where the
+//! outside fails.
+
+use crate::tests::commands::two_gates;
+use crate::tests::programs::measured_lines;
+use crate::tests::tidy::two_registers;
+use qz_circ::{Inst, Memory, QasmFault, RuleFault, Which};
+use qz_io::{MemShelf, MemSink, MemSource, Named, SureSink};
+use qz_rulefile::{Rules, read};
+use qz_search::{Plan, search};
+use qz_top::{Status, run_solo};
+use std::alloc::{AllocError, Global};
+use std::process::Abort;
+use std::test::Fail;
+
+// The next functions hide the clauses of what is tested: a test that knows less is proved sooner.
+fn answer(
+    alloc: Global,
+    words: &[String],
+    input: &mut MemSource,
+    shelf: &mut MemShelf,
+    out: &mut MemSink,
+) -> Status {
+    let mut err = SureSink::new(alloc);
+    run_solo(alloc, words, input, shelf, out, &mut err)
+}
+
+fn left(input: &MemSource) -> &[u8] {
+    input.left()
+}
+
+fn written(out: &MemSink) -> &[u8] {
+    out.written()
+}
+
+fn number_of(status: Status) -> u8 {
+    status.number()
+}
+
+// The words that ask to optimise by the rules in this file.
+fn words_with(alloc: Global, name: &str) -> Result<Vec<String>, AllocError> {
+    let mut words = Vec::new(alloc);
+    words.push(String::from_str(alloc, "optimise")?)?;
+    words.push(String::from_str(alloc, "--rules")?)?;
+    words.push(String::from_str(alloc, name)?)?;
+    Ok(words)
+}
+
+fn named(alloc: Global, name: &str, file: &str) -> Result<Named, AllocError> {
+    let name = String::from_str(alloc, name)?;
+    Ok(Named::new(name, Vec::from_slice(alloc, file.as_bytes())?))
+}
+
+// A shelf with the file r, and behind it another one of this name.
+fn files(alloc: Global, first: &str, second: &str) -> Result<Vec<Named>, AllocError> {
+    let mut files = Vec::new(alloc);
+    files.push(named(alloc, "r", first)?)?;
+    files.push(named(alloc, "r", second)?)?;
+    Ok(files)
+}
+
+// Whether the words end so on this shelf, where nothing is read of the input and nothing is written.
+fn ends(
+    alloc: Global,
+    name: &str,
+    shelf: &mut MemShelf,
+    status: Status,
+) -> Result<bool, AllocError> {
+    let words = words_with(alloc, name)?;
+    let mut input = MemSource::new(Vec::from_slice(alloc, b"q")?, Vec::new(alloc));
+    let mut out = MemSink::new(alloc, Vec::new(alloc));
+    let end = answer(alloc, &words, &mut input, shelf, &mut out);
+    Ok(end == status && left(&input).len() == 1 && written(&out).is_empty())
+}
+
+// Whether a file with this text makes the words end so.
+fn file_ends(alloc: Global, file: &str, status: Status) -> Result<bool, AllocError> {
+    let mut shelf = MemShelf::new(files(alloc, file, "")?, Vec::new(alloc), false);
+    ends(alloc, "r", &mut shelf, status)
+}
+
+// Whether by the rules of this file the program is written so, and the input read to its end.
+fn is_optimised(
+    alloc: Global,
+    file: &str,
+    program: &[u8],
+    text: &[u8],
+) -> Result<bool, AllocError> {
+    let words = words_with(alloc, "r")?;
+    let mut shelf = MemShelf::new(files(alloc, file, "")?, Vec::new(alloc), false);
+    let mut input = MemSource::new(Vec::from_slice(alloc, program)?, Vec::new(alloc));
+    let mut out = MemSink::new(alloc, Vec::new(alloc));
+    let end = answer(alloc, &words, &mut input, &mut shelf, &mut out);
+    Ok(end == Status::Ok && left(&input).is_empty() && written(&out) == text)
+}
+
+// By the rules of this file the program is written so.
+fn optimises(rt: &impl Abort, alloc: Global, file: &str, program: &[u8], text: &[u8]) {
+    assert!(rt; is_optimised(alloc, file, program, text).unwrap_or(false));
+}
+
+// Whether this input, which fails at these places, ends the command so by the rules of two gates, and nothing is written.
+fn input_ends(
+    alloc: Global,
+    program: &[u8],
+    stops: &[u64],
+    status: Status,
+) -> Result<bool, AllocError> {
+    let words = words_with(alloc, "r")?;
+    let mut shelf = MemShelf::new(files(alloc, two_gates(), "")?, Vec::new(alloc), false);
+    let stops = Vec::from_slice(alloc, stops)?;
+    let mut input = MemSource::new(Vec::from_slice(alloc, program)?, stops);
+    let mut out = MemSink::new(alloc, Vec::new(alloc));
+    let end = answer(alloc, &words, &mut input, &mut shelf, &mut out);
+    Ok(end == status && written(&out).is_empty())
+}
+
+// A file with this text makes the words end so.
+fn check(rt: &impl Abort, alloc: Global, file: &str, status: Status) {
+    assert!(rt;
+        file_ends(alloc, file, status).unwrap_or(false),
+        "{status:?}"
+    );
+}
+
+// The file with these lines after the first has its fault at this place.
+fn check_syntax(rt: &impl Abort, alloc: Global, lines: &str, place: u64) -> Result<(), AllocError> {
+    let mut file = String::from_str(alloc, "quartz-rules 1\n")?;
+    file.push_str(lines)?;
+    check(rt, alloc, file.as_str(), Status::RuleSyntax { place });
+    Ok(())
+}
+
+#[test]
+fn places_faults_of_first_lines(rt: HostRuntime) -> Result<(), Fail> {
+    let alloc = rt.alloc();
+    check(&rt, alloc, "", Status::RuleSyntax { place: 0 });
+    let version = Status::RuleSyntax { place: 13 };
+    check(&rt, alloc, "quartz-rules 3\nbounds 2 1 0\n", version);
+    check_syntax(&rt, alloc, "bounds 02 1 0\nclasses 0\nend\n", 23)?;
+    check_syntax(&rt, alloc, "bounds 1234567890 1 0\n", 31)?;
+    Ok(())
+}
+
+#[test]
+fn places_faults_of_classes(rt: HostRuntime) -> Result<(), Fail> {
+    let alloc = rt.alloc();
+    check_syntax(&rt, alloc, "bounds 0 1 0\nclasses 0\nend\n\n", 42)?;
+    check_syntax(&rt, alloc, "bounds 2 1 0\nclasses 1\nclass 2\n", 46)?;
+    check_syntax(
+        &rt,
+        alloc,
+        "bounds 1 1 0\nclasses 1\nclass 1\nh 0\nend\n",
+        45,
+    )?;
+    check_syntax(&rt, alloc, "bounds 1 1 0\nclasses 1\nclass 0\nend\n", 44)?;
+    Ok(())
+}
+
+// A letter that begins no gate within the bounds is a fault there.
+#[test]
+fn places_faults_of_gates(rt: HostRuntime) -> Result<(), Fail> {
+    let alloc = rt.alloc();
+    check_syntax(
+        &rt,
+        alloc,
+        "bounds 2 1 0\nclasses 1\nclass 2\n-\nh 1;h 0\nend\n",
+        50,
+    )?;
+    check_syntax(
+        &rt,
+        alloc,
+        "bounds 0 1 0\nclasses 1\nclass 2\n-\nh 0\nend\n",
+        48,
+    )?;
+    check_syntax(
+        &rt,
+        alloc,
+        "bounds 1 1 0\nclasses 1\nclass 2\nh 0;h 0\nx 0\nend\n",
+        49,
+    )?;
+    check_syntax(
+        &rt,
+        alloc,
+        "bounds 2 1 0\nclasses 1\nclass 2\ncx 0 1\nh 0\nend\n",
+        46,
+    )?;
+    check_syntax(
+        &rt,
+        alloc,
+        "bounds 2 2 0\nclasses 1\nclass 2\ncx 0 0\nh 0\nend\n",
+        51,
+    )?;
+    check_syntax(
+        &rt,
+        alloc,
+        "bounds 2 1 0\nclasses 1\nclass 2\nrz(p0) 0\nh 0\nend\n",
+        49,
+    )?;
+    check_syntax(
+        &rt,
+        alloc,
+        "bounds 2 1 1\nclasses 1\nclass 2\nrz(p1) 0\nh 0\nend\n",
+        50,
+    )?;
+    check_syntax(
+        &rt,
+        alloc,
+        "bounds 1 1 0\nclasses 1\nclass 2\nrz(0) 0\nx 0\nend\n",
+        49,
+    )?;
+    Ok(())
+}
+
+#[test]
+fn refuses_bounds_of_rule_files(rt: HostRuntime) {
+    let alloc = rt.alloc();
+    let head = "quartz-rules 1\nbounds 7 1 0\nclasses 0\nend\n";
+    check(&rt, alloc, head, Status::Limit(Which::BoundsGates));
+    let qubits = Status::Limit(Which::BoundsQubits);
+    check(&rt, alloc, "quartz-rules 1\nbounds 2 4 0\n", qubits);
+    let params = Status::Limit(Which::BoundsParams);
+    check(&rt, alloc, "quartz-rules 1\nbounds 2 1 4\nx", params);
+    let circuits = Status::Limit(Which::BoundsCircuits);
+    check(&rt, alloc, "quartz-rules 1\nbounds 5 2 2\n", circuits);
+}
+
+#[test]
+fn refuses_unsound_rules(rt: HostRuntime) {
+    let alloc = rt.alloc();
+    let first = "quartz-rules 1\nbounds 1 1 0\nclasses 1\nclass 2\nh 0\nx 0\nend\n";
+    let unsound = Status::Unsound {
+        class: 1,
+        member: 2,
+    };
+    check(&rt, alloc, first, unsound);
+    let later =
+        "quartz-rules 1\nbounds 2 1 2\nclasses 2\nclass 2\nx 0\nx 0\nclass 3\nx 0;rz(p0) 0\nrz(-p0) 0;x 0\nrz(p0) 0;x 0\nend\n";
+    let unsound = Status::Unsound {
+        class: 2,
+        member: 3,
+    };
+    check(&rt, alloc, later, unsound);
+    assert_eq!(&rt; number_of(unsound), 6);
+}
+
+// With these rules a program without gates is written as it is.
+fn reads(rt: &impl Abort, alloc: Global, file: &str) {
+    let text = b"OPENQASM 2.0;\ninclude \"qelib1.inc\";\n";
+    optimises(rt, alloc, file, b"OPENQASM 2.0;", text);
+}
+
+// A member may be there twice, and may be the empty circuit; circuits of no gate are allowed.
+#[test]
+fn reads_sound_rules(rt: HostRuntime) {
+    let alloc = rt.alloc();
+    reads(&rt, alloc, two_gates());
+    let twice = "quartz-rules 1\nbounds 1 1 0\nclasses 1\nclass 2\nh 0\nh 0\nend\n";
+    reads(&rt, alloc, twice);
+    let empty = "quartz-rules 1\nbounds 2 1 0\nclasses 1\nclass 2\nh 0;h 0\n-\nend\n";
+    reads(&rt, alloc, empty);
+    let no_gate = "quartz-rules 1\nbounds 0 1 0\nclasses 1\nclass 2\n-\n-\nend\n";
+    reads(&rt, alloc, no_gate);
+    let sum =
+        "quartz-rules 1\nbounds 2 1 2\nclasses 1\nclass 2\nrz(p0) 0;rz(p1) 0\nrz(p0+p1) 0\nend\n";
+    reads(&rt, alloc, sum);
+}
+
+// Two H cancel around a gate on other qubits, and not around one on theirs; a rotation between two X is turned.
+#[test]
+fn optimises_by_rules_of_two_gates(rt: HostRuntime) {
+    let alloc = rt.alloc();
+    optimises(
+        &rt,
+        alloc,
+        two_gates(),
+        b"OPENQASM 2.0;\nqreg q[3];\nh q[0]; cx q[1],q[2]; h q[0];",
+        b"OPENQASM 2.0;\ninclude \"qelib1.inc\";\nqreg q[3];\ncx q[1],q[2];\n",
+    );
+    optimises(
+        &rt,
+        alloc,
+        two_gates(),
+        b"OPENQASM 2.0;\nqreg q[3];\nh q[0]; cx q[0],q[1]; h q[0];",
+        b"OPENQASM 2.0;\ninclude \"qelib1.inc\";\nqreg q[3];\nh q[0];\ncx q[0],q[1];\nh q[0];\n",
+    );
+    optimises(
+        &rt,
+        alloc,
+        two_gates(),
+        b"OPENQASM 2.0;\nqreg q[1];\nx q[0]; rz(pi/4) q[0]; x q[0];",
+        b"OPENQASM 2.0;\ninclude \"qelib1.inc\";\nqreg q[1];\nrz(-pi/4) q[0];\n",
+    );
+}
+
+// The text with these lines before its first barrier.
+fn before_barrier(alloc: Global, text: &[u8], lines: &[u8]) -> Result<Vec<u8>, AllocError> {
+    let mut changed = Vec::new(alloc);
+    for place in 0..text.len() {
+        if text[place..].starts_with(b"barrier") {
+            changed.extend_from_slice(lines)?;
+            changed.extend_from_slice(&text[place..])?;
+            return Ok(changed);
+        }
+        changed.push(text[place])?;
+    }
+    Ok(changed)
+}
+
+// The registers and the tail are written as they are, and two rotations by a quarter as one.
+#[test]
+fn optimises_a_measured_program(rt: HostRuntime) -> Result<(), Fail> {
+    let alloc = rt.alloc();
+    let program = before_barrier(alloc, two_registers(), b"t q[1];\nt q[1];\n")?;
+    let text = before_barrier(alloc, measured_lines(), b"rz(pi/2) q[1];\n")?;
+    optimises(&rt, alloc, two_gates(), &program, &text);
+    Ok(())
+}
+
+// What so many rounds find from X, a rotation by pi/4 and X, by these rules.
+fn found_by(alloc: Global, rules: &Rules, rounds: u64) -> Result<Vec<Inst>, Memory> {
+    match Plan::new(rounds, 8, 100, 0) {
+        Ok(plan) => search(
+            alloc,
+            rules,
+            &[Inst::X(0), Inst::Rz(0, 64), Inst::X(0)],
+            plan,
+        ),
+        Err(_) => Err(Memory),
+    }
+}
+
+// Whether so many rounds find these gates by the rules of two gates.
+fn rounds_find(alloc: Global, rounds: u64, wanted: &[Inst]) -> bool {
+    let Ok(rules) = read(alloc, two_gates().as_bytes()) else {
+        return false;
+    };
+    match found_by(alloc, &rules, rounds) {
+        Ok(found) => found.as_slice() == wanted,
+        Err(_) => false,
+    }
+}
+
+#[test]
+fn searches_by_rounds(rt: HostRuntime) {
+    let alloc = rt.alloc();
+    let unchanged = [Inst::X(0), Inst::Rz(0, 64), Inst::X(0)];
+    assert!(rt; rounds_find(alloc, 0, &unchanged));
+    let turned = [Inst::X(0), Inst::X(0), Inst::Rz(0, 448)];
+    assert!(rt; rounds_find(alloc, 1, &turned));
+    assert!(rt; rounds_find(alloc, 2, &[Inst::Rz(0, 448)]));
+    assert!(rt; rounds_find(alloc, 16, &[Inst::Rz(0, 448)]));
+}
+
+// The input is refused after the rules, and fails after them.
+#[test]
+fn ends_by_inputs(rt: HostRuntime) -> Result<(), Fail> {
+    let alloc = rt.alloc();
+    let program = b"OPENQASM 2.0;\nqreg q[1];\nx q[0]; rz(pi/4) q[0]; x q[0];";
+    assert!(rt; input_ends(alloc, program, &[0], Status::ReadFault)?);
+    let syntax = Status::Qasm(QasmFault::Syntax { place: 0 });
+    assert!(rt; input_ends(alloc, b"", &[], syntax)?);
+    let qubits = Status::Limit(Which::ProgramQubits);
+    assert!(rt; input_ends(alloc, b"OPENQASM 2.0;\nqreg q[65];", &[], qubits)?);
+    assert_eq!(rt; number_of(Status::ReadFault), 8);
+    Ok(())
+}
+
+// Whether the front of the file has its fault where it ends.
+fn front_fails(alloc: Global, file: &[u8], length: usize) -> bool {
+    let place = length as u64;
+    match read(alloc, &file[..length.min(file.len())]) {
+        Err(fault) => fault == RuleFault::Syntax { place },
+        Ok(_) => false,
+    }
+}
+
+#[test]
+fn places_faults_where_files_are_cut(rt: HostRuntime) {
+    let file = two_gates().as_bytes();
+    for length in 0..file.len() {
+        assert!(rt; front_fails(rt.alloc(), file, length));
+    }
+}
+
+// Whether the words end so on a shelf with the rules of two gates, which fails at these places or at the next opening.
+fn shelf_ends(
+    alloc: Global,
+    name: &str,
+    stops: &[u64],
+    fail_open: bool,
+    status: Status,
+) -> Result<bool, AllocError> {
+    let stops = Vec::from_slice(alloc, stops)?;
+    let mut shelf = MemShelf::new(files(alloc, two_gates(), "")?, stops, fail_open);
+    ends(alloc, name, &mut shelf, status)
+}
+
+#[test]
+fn ends_by_faults_of_shelves(rt: HostRuntime) -> Result<(), Fail> {
+    let alloc = rt.alloc();
+    assert!(rt; shelf_ends(alloc, "none", &[], false, Status::NoFile)?);
+    assert!(rt; shelf_ends(alloc, "r", &[20], false, Status::ShelfFault)?);
+    assert!(rt; shelf_ends(alloc, "r", &[], true, Status::ShelfFault)?);
+    assert!(rt; shelf_ends(alloc, "none", &[], true, Status::ShelfFault)?);
+    assert_eq!(rt; number_of(Status::NoFile), 7);
+    assert_eq!(rt; number_of(Status::ShelfFault), 10);
+    Ok(())
+}
