@@ -1,6 +1,6 @@
 -- What the tokens of an angle mean: a number of 256ths of pi, or the first fault. The grammar is a part of OpenQASM 2.0's;
 -- fractions of pi, the limits and the order of faults are this project's own.
-use Rattle.std.specs.Prelude.{ℕ, zero, suc, ◌+◌, ◌-◌, ◌*◌, ◌/◌, ◌%◌, ◌^◌, ℤ, pos, neg_ℤ, ◌+ℤ◌, ◌*ℤ◌, unsigned_abs, Bool, true, false, not, ◌&&◌, ◌||◌, ◌==◌, nat_lt, if◌then◌else◌, List, [], ◌∷◌, length, Result, Ok, Err}
+use Rattle.std.specs.Prelude.{ℕ, zero, suc, ◌*◌, ◌/◌, ◌%◌, ◌^◌, ℤ, pos, neg_ℤ, ◌+ℤ◌, ◌*ℤ◌, unsigned_abs, Bool, true, false, not, ◌&&◌, ◌||◌, ◌==◌, nat_lt, if◌then◌else◌, List, [], ◌∷◌, length, Result, Ok, Err}
 use Rattle.std.specs.Int.{is_negative, int_rem_euclid}
 use Rattle.qz_circ.specs.declared.token.Token.{Token}
 use Rattle.qz_circ.specs.declared.token.Kind.TheVariants.{Whole, Pi, LeftParen, RightParen, Plus, Minus, Star, Slash}

@@ -13,9 +13,9 @@ pub record IsLongest {X : Type 0} (Language : X → List ℕ → Type 0) (file :
   pub longest : (n : ℕ) → n ≤ length file → Begins Language (take n file) → n ≤ place
 
 -- the file is no text of the language, and its fault is at this place
-abbrev pub IsPlace : {X : Type 0} → (X → List ℕ → Type 0) → List ℕ → ℕ → Type 0
-IsPlace {X} Language file place = IsLongest Language file place × ((x : X) → Language x file → ⊥)
+abbrev pub IsFaultPlace : {X : Type 0} → (X → List ℕ → Type 0) → List ℕ → ℕ → Type 0
+IsFaultPlace {X} Language file place = IsLongest Language file place × ((x : X) → Language x file → ⊥)
 
 -- the file begins with no text of the language, and its fault is at this place
-abbrev pub IsPlaceWithin : {X : Type 0} → (X → List ℕ → Type 0) → List ℕ → ℕ → Type 0
-IsPlaceWithin {X} Language file place = IsLongest Language file place × ((x : X) (text rest : List ℕ) → Language x text → file ≡ text ++ rest → ⊥)
+abbrev pub IsFaultPlaceWithin : {X : Type 0} → (X → List ℕ → Type 0) → List ℕ → ℕ → Type 0
+IsFaultPlaceWithin {X} Language file place = IsLongest Language file place × ((x : X) (text rest : List ℕ) → Language x text → file ≡ text ++ rest → ⊥)

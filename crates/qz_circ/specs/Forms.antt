@@ -5,7 +5,7 @@ use Rattle.std.specs.Char.{is_ascii_lowercase}
 use Rattle.std.specs.List.{list_any}
 use Rattle.std.specs.Str.{bytes_eq}
 use Rattle.qz_circ.specs.declared.token.Kind.{Kind}
-use Rattle.qz_circ.specs.declared.token.Kind.TheVariants.{Word, Whole, Real, Text, Semicolon, Comma, LeftParen, RightParen, LeftBracket, RightBracket, Arrow}
+use Rattle.qz_circ.specs.declared.token.Kind.TheVariants.{Word, Whole, Real, Text, Comma, LeftParen, RightParen, LeftBracket, RightBracket, Arrow}
 use Rattle.qz_circ.specs.declared.fault.QasmFault.{QasmFault}
 use Rattle.qz_circ.specs.declared.fault.QasmFault.TheVariants as fault
 use Rattle.qz_circ.specs.declared.gate_name.GateName.{GateName}

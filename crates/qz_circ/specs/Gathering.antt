@@ -29,7 +29,7 @@ meets g gates = list_any (λ f. shares g f) gates
 
 -- ---- positions
 
--- the gates from position i up to the last of the rising positions, each with whether it is selected
+-- The gates up to the last of the rising positions, each with whether it is selected, where c holds the gates from position i on.
 unfoldable pub marked : ℕ → List ℕ → ProgramCircuit → List (Bool × Inst)
 marked i [] c = []
 marked i (p ∷ ps) [] = []

@@ -7,7 +7,6 @@ use Rattle.std.specs.Bool.{nat_eq}
 use Rattle.std.specs.Str.{bytes_eq}
 use Rattle.qz_circ.specs.declared.circuit.Inst.{Inst}
 use Rattle.qz_circ.specs.declared.program.Arg.{Arg}
-use Rattle.qz_circ.specs.declared.program.Tail.{Tail}
 use Rattle.qz_circ.specs.declared.program.Tail.TheVariants.{Barrier, Measure}
 use Rattle.qz_circ.specs.declared.fault.Which.TheVariants.{ProgramRegisters, ProgramQubits, ProgramBits, ProgramGates}
 use Rattle.qz_circ.specs.declared.fault.QasmFault.{QasmFault}

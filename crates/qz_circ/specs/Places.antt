@@ -145,15 +145,15 @@ abbrev pub bind_angle : Slots → Expr → ℕ → Option Slots
 bind_angle slots e k = if is_value k (value_of_angle (solved slots e k) e) then Some (solved slots e k) else None
 
 -- the binding with these qubits, where they bind
-abbrev pub bind_all : Slots → Option Slots → Option Binding
-bind_all params qubits = option_map (λ slots. record { qubits = slots; params = params }) qubits
+abbrev pub binding_with : Slots → Option Slots → Option Binding
+binding_with params qubits = option_map (λ slots. record { qubits = slots; params = params }) qubits
 
 -- a gate of the rule and one of the program: their kinds agree, their angles bind, and so do their qubits
 abbrev pub bind_gate : Binding → Op → Inst → Option Binding
-bind_gate bind (H t) (ProgramH w) = bind_all bind.params (bind_qubit bind.qubits t w)
-bind_gate bind (X t) (ProgramX w) = bind_all bind.params (bind_qubit bind.qubits t w)
-bind_gate bind (Cx c t) (ProgramCx v w) = bind_all bind.params (bind_qubits bind.qubits (c ∷ t ∷ []) (v ∷ w ∷ []))
-bind_gate bind (Rz t e) (ProgramRz w k) = and_then (bind_angle bind.params e k) (λ params. bind_all params (bind_qubit bind.qubits t w))
+bind_gate bind (H t) (ProgramH w) = binding_with bind.params (bind_qubit bind.qubits t w)
+bind_gate bind (X t) (ProgramX w) = binding_with bind.params (bind_qubit bind.qubits t w)
+bind_gate bind (Cx c t) (ProgramCx v w) = binding_with bind.params (bind_qubits bind.qubits (c ∷ t ∷ []) (v ∷ w ∷ []))
+bind_gate bind (Rz t e) (ProgramRz w k) = and_then (bind_angle bind.params e k) (λ params. binding_with params (bind_qubit bind.qubits t w))
 bind_gate bind f g = None
 
 -- gate by gate

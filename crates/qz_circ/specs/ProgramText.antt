@@ -1,5 +1,5 @@
 -- The canonical text of a program, in OpenQASM 2.0. That each program has one text is this project's own.
-use Rattle.std.specs.Prelude.{ℕ, zero, suc, ◌-◌, ◌/◌, ◌%◌, ◌^◌, ◌==◌, nat_lt, if◌then◌else◌, List, [], ◌∷◌, ◌++◌, map, slice_index_or, codes, Option, Some, None}
+use Rattle.std.specs.Prelude.{ℕ, zero, suc, ◌-◌, ◌/◌, ◌%◌, ◌^◌, ◌==◌, nat_lt, if◌then◌else◌, List, [], ◌++◌, map, slice_index_or, codes, Option, Some, None}
 use Rattle.std.specs.Fmt.{decimal}
 use Rattle.std.specs.List.{flat_map, join_with_byte}
 use Rattle.qz_circ.specs.declared.circuit.Inst.{Inst}
@@ -8,12 +8,9 @@ use Rattle.qz_circ.specs.declared.program.Arg.{Arg}
 use Rattle.qz_circ.specs.declared.program.Tail.{Tail}
 use Rattle.qz_circ.specs.declared.program.Tail.TheVariants.{Barrier, Measure}
 use Rattle.qz_circ.specs.Circuit.{below}
+use Rattle.qz_circ.specs.Lines.{line}
 use Rattle.qz_circ.specs.Registers.{RegisterParts, names_of}
 use Rattle.qz_circ.specs.Programs.{ProgramParts}
-
--- the text and a line feed
-abbrev pub line : List ℕ → List ℕ
-line text = text ++ 10 ∷ []
 
 -- ---- angles
 

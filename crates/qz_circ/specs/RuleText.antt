@@ -8,24 +8,21 @@ use Rattle.qz_circ.specs.declared.circuit.Op.{Op}
 use Rattle.qz_circ.specs.declared.circuit.Op.TheVariants.{H, X, Cx, Rz}
 use Rattle.qz_circ.specs.Circuit.{Circuit, Limits}
 use Rattle.qz_circ.specs.Joined.{circuits_of_ranks}
-
--- the text and a line feed
-abbrev pub line : List ℕ → List ℕ
-line text = text ++ 10 ∷ []
+use Rattle.qz_circ.specs.Lines.{line}
 
 -- an angle, as 1, p0, -p0 or p0+p1
-unfoldable pub angle_text : Expr → List ℕ
-angle_text (Const t) = decimal t
-angle_text (Plus i) = codes "p" ++ decimal i
-angle_text (Minus i) = codes "-p" ++ decimal i
-angle_text (Sum i j) = codes "p" ++ decimal i ++ codes "+p" ++ decimal j
+unfoldable pub expression_text : Expr → List ℕ
+expression_text (Const t) = decimal t
+expression_text (Plus i) = codes "p" ++ decimal i
+expression_text (Minus i) = codes "-p" ++ decimal i
+expression_text (Sum i j) = codes "p" ++ decimal i ++ codes "+p" ++ decimal j
 
 -- a gate, as h 0, x 0, cx 0 1 or rz(1) 0
 unfoldable pub gate_text : Op → List ℕ
 gate_text (H t) = codes "h " ++ decimal t
 gate_text (X t) = codes "x " ++ decimal t
 gate_text (Cx c t) = codes "cx " ++ decimal c ++ codes " " ++ decimal t
-gate_text (Rz t e) = codes "rz(" ++ angle_text e ++ codes ") " ++ decimal t
+gate_text (Rz t e) = codes "rz(" ++ expression_text e ++ codes ") " ++ decimal t
 
 -- the gates from left to right, with semicolons (59) between them; a minus sign where there is none
 unfoldable pub circuit_text : Circuit → List ℕ

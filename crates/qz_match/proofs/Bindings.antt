@@ -16,7 +16,7 @@ use Rattle.qz_circ.specs.Circuit.{Circuit, IsOn, ActsBelow, HasBelow, AngleHasBe
 use Rattle.qz_circ.specs.Exponent.{angle_value}
 use Rattle.qz_circ.specs.ProgramCircuits.{ProgramCircuit, IsProgramGate}
 use Rattle.qz_circ.specs.Instances.{slot, qubit_of, param_of, instance_gate, instance_of, bound_instance, IsBinding, IsBoundCircuit, QubitsBound, ParamsBound, AngleBound}
-use Rattle.qz_circ.specs.Places.{Slots, and_then, stands_in, bind_where, bind_qubit, bind_qubits, value_of_angle, filled, filled_sum, solved, is_value, bind_angle, bind_all, bind_gate, bind_gates, nothing_bound}
+use Rattle.qz_circ.specs.Places.{Slots, and_then, stands_in, bind_where, bind_qubit, bind_qubits, value_of_angle, filled, filled_sum, solved, is_value, bind_angle, binding_with, bind_gate, bind_gates, nothing_bound}
 
 -- ---- what binds further
 
@@ -240,10 +240,10 @@ pub record BindsGate (old : Binding) (f : Op) (g : Inst) (next : Binding) : Type
   pub gate : IsGateOf next f g
 
 -- a qubit bound beside parameters that stand
-one_bound : (old : Binding) (params : Slots) (s w : ℕ) (next : Binding) → IsSound old → Solves old.params params → s < 3 → bind_all params (bind_qubit old.qubits s w) ≡ Some next → Grows old next × (slot next.qubits s ≡ Some w) × (next.params ≡ params)
+one_bound : (old : Binding) (params : Slots) (s w : ℕ) (next : Binding) → IsSound old → Solves old.params params → s < 3 → binding_with params (bind_qubit old.qubits s w) ≡ Some next → Grows old next × (slot next.qubits s ≡ Some w) × (next.params ≡ params)
 one_bound old params s w next sound solves few h = by (bind_qubit old.qubits s w) refl h
   where
-    by : (o : Option Slots) → bind_qubit old.qubits s w ≡ o → bind_all params o ≡ Some next → Grows old next × (slot next.qubits s ≡ Some w) × (next.params ≡ params)
+    by : (o : Option Slots) → bind_qubit old.qubits s w ≡ o → binding_with params o ≡ Some next → Grows old next × (slot next.qubits s ≡ Some w) × (next.params ≡ params)
     by None e g = absurd (let stuck : None ≡ Some next = g in cc)
     by (Some qubits) e g =
         let moved : record { qubits = qubits; params = params } ≡ next = cc in
@@ -264,10 +264,10 @@ one_bound old params s w next sound solves few h = by (bind_qubit old.qubits s w
           refl,
         )
 
-two_bound : (old : Binding) (c t v w : ℕ) (next : Binding) → IsSound old → c < 3 → t < 3 → bind_all old.params (bind_qubits old.qubits (c ∷ t ∷ []) (v ∷ w ∷ [])) ≡ Some next → Grows old next × (slot next.qubits c ≡ Some v) × (slot next.qubits t ≡ Some w)
+two_bound : (old : Binding) (c t v w : ℕ) (next : Binding) → IsSound old → c < 3 → t < 3 → binding_with old.params (bind_qubits old.qubits (c ∷ t ∷ []) (v ∷ w ∷ [])) ≡ Some next → Grows old next × (slot next.qubits c ≡ Some v) × (slot next.qubits t ≡ Some w)
 two_bound old c t v w next sound few also h = first (bind_qubit old.qubits c v) refl h
   where
-    second : (qubits : Slots) → BindsQubit old.qubits c v qubits → (o : Option Slots) → bind_qubit qubits t w ≡ o → bind_all old.params (and_then o (λ n. Some n)) ≡ Some next → Grows old next × (slot next.qubits c ≡ Some v) × (slot next.qubits t ≡ Some w)
+    second : (qubits : Slots) → BindsQubit old.qubits c v qubits → (o : Option Slots) → bind_qubit qubits t w ≡ o → binding_with old.params (and_then o (λ n. Some n)) ≡ Some next → Grows old next × (slot next.qubits c ≡ Some v) × (slot next.qubits t ≡ Some w)
     second qubits one None e g = absurd (let stuck : None ≡ Some next = g in cc)
     second qubits one (Some more) e g =
         let moved : record { qubits = more; params = old.params } ≡ next = cc in
@@ -289,7 +289,7 @@ two_bound old c t v w next sound few also h = first (bind_qubit old.qubits c v) 
           two.bound,
         )
 
-    first : (o : Option Slots) → bind_qubit old.qubits c v ≡ o → bind_all old.params (and_then o (λ n. and_then (bind_qubit n t w) (λ m. Some m))) ≡ Some next → Grows old next × (slot next.qubits c ≡ Some v) × (slot next.qubits t ≡ Some w)
+    first : (o : Option Slots) → bind_qubit old.qubits c v ≡ o → binding_with old.params (and_then o (λ n. and_then (bind_qubit n t w) (λ m. Some m))) ≡ Some next → Grows old next × (slot next.qubits c ≡ Some v) × (slot next.qubits t ≡ Some w)
     first None e g = absurd (let stuck : None ≡ Some next = g in cc)
     first (Some qubits) e g =
         let size = sound.qubits_size in
@@ -297,7 +297,7 @@ two_bound old c t v w next sound few also h = first (bind_qubit old.qubits c v) 
 
 rotation_bound : (q : ℕ) (old : Binding) (t : ℕ) (e : Expr) (w k : ℕ) (next : Binding) → IsSound old → t < 3 → AngleHasBelow 3 e → k < 512 → bind_gate old (Rz t e) (ProgramRz w k) ≡ Some next → BindsGate old (Rz t e) (ProgramRz w k) next
 rotation_bound q old t e w k next sound few has angle h =
-    let parts = and_then-some (bind_angle old.params e k) (λ params. bind_all params (bind_qubit old.qubits t w)) next h in
+    let parts = and_then-some (bind_angle old.params e k) (λ params. binding_with params (bind_qubit old.qubits t w)) next h in
     let params = parts.0 in
     let has_so : AngleHasBelow (length old.params) e = subst (λ n. AngleHasBelow n e) (sym sound.params_size) has in
     let bound = bind_angle-is old.params e k params has_so angle parts.1 in

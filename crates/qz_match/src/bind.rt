@@ -2,7 +2,7 @@
 ghost use Rattle.std.specs.Prelude.{◌≡◌, ℕ, ◌+◌, ◌-◌, ◌%◌, ◌<◌, ◌≤◌, Bool, true, false, [], ◌∷◌, length, map, Option, Some, None, take, slice_set, slice_index};
 ghost use Rattle.qz_circ.specs.Circuit.{ActsBelow, HasBelow, AngleHasBelow, IsOn};
 ghost use Rattle.qz_circ.specs.Instances.{slot};
-ghost use Rattle.qz_circ.specs.Places.{stands_in, bind_where, bind_qubit, bind_qubits, value_of_angle, filled, filled_sum, solved, is_value, bind_angle, bind_all, bind_gate, bind_gates, nothing_bound};
+ghost use Rattle.qz_circ.specs.Places.{stands_in, bind_where, bind_qubit, bind_qubits, value_of_angle, filled, filled_sum, solved, is_value, bind_angle, binding_with, bind_gate, bind_gates, nothing_bound};
 ghost use Rattle.qz_match.specs.Neighbours.{gate_at};
 
 use qz_circ::{Binding, Expr, Inst, Op};
@@ -145,7 +145,7 @@ fn angle_bound(slots: [Option<u16>; 3], e: Expr, k: u16) -> Option<[Option<u16>;
 // A qubit beside these parameters.
 fn one_bound(bind: Binding, params: [Option<u16>; 3], s: u8, w: u8) -> Option<Binding>
     requires { s < 3 }
-    ensures { result ≡ bind_all params (bind_qubit bind.qubits s w) }
+    ensures { result ≡ binding_with params (bind_qubit bind.qubits s w) }
 {
     let qubits = qubit_bound(bind.qubits, s, w)?;
     Some(Binding { qubits, params })

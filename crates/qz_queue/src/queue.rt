@@ -153,7 +153,7 @@ impl Queue {
 
     /// Whether as many circuits of less than this cost are there as the queue holds at most, so that it refuses each circuit of
     /// this cost or more.
-    pub fn is_closed_to(&self, n: u64) -> bool
+    pub fn is_closed_to_cost(&self, n: u64) -> bool
         ensures exact { IsTrue result ↔ (self.now.cap ≤ count_by (λ d. nat_lt (cost d) n) self.now.list) }
         ensures refused { IsTrue result → (c : ProgramCircuit) → n ≤ cost c → firsts self.now.cap (c ∷ self.now.list) ≡ self.now.list }
     {

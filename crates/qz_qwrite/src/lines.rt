@@ -2,7 +2,8 @@
 ghost use Rattle.std.specs.Prelude.{◌≡◌, ◌<◌, [], ◌++◌, length, codes, OnOk};
 ghost use Rattle.std.specs.List.{flat_map, AllByRecursion};
 ghost use Rattle.qz_circ.specs.ProgramCircuits.{IsProgramGate};
-ghost use Rattle.qz_circ.specs.ProgramText.{line, angle_text, register_line, gate_line, tail_line};
+ghost use Rattle.qz_circ.specs.Lines.{line};
+ghost use Rattle.qz_circ.specs.ProgramText.{angle_text, register_line, gate_line, tail_line};
 ghost use Rattle.qz_circ.specs.ValidPrograms.{IsOperand, IsStatement};
 
 use crate::angle::push_angle;

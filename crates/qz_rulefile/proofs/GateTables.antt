@@ -10,14 +10,14 @@ use Rattle.qz_circ.specs.declared.circuit.Op.{Op}
 use Rattle.qz_circ.specs.declared.circuit.Op.TheVariants.{H}
 use Rattle.qz_circ.specs.Circuit.{Limits, gates_of, angles}
 use Rattle.qz_circ.specs.Bounds.{IsLawful, gate_count}
-use Rattle.qz_circ.specs.RuleText.{gate_text, angle_text}
+use Rattle.qz_circ.specs.RuleText.{gate_text, expression_text}
 use Rattle.qz_circ.proofs.BoundsLemmas.{in_range}
 use Rattle.qz_rulefile.specs.Reading.{are_apart, common, gate_texts, first_texts, next_texts, one_of_at}
 use Rattle.qz_rulefile.proofs.OneOf.{one_of_exact}
 
 -- computed for each number of qubits and parameters
 apart_by_range : (n q m : ℕ) → 0 < q → q ≤ 3 → m ≤ 3 → (are_apart ((45 ∷ 10 ∷ []) ∷ gate_texts (record { n = n; q = q; m = m })) ≡ true) × (are_apart ((10 ∷ []) ∷ map (λ (text : List ℕ). 59 ∷ text) (gate_texts (record { n = n; q = q; m = m }))) ≡ true)
-unfolding gate_texts gates_of angles gate_text angle_text common digits
+unfolding gate_texts gates_of angles gate_text expression_text common digits
 apart_by_range n (suc zero) zero p h k = (refl, refl)
 apart_by_range n (suc zero) (suc zero) p h k = (refl, refl)
 apart_by_range n (suc zero) (suc (suc zero)) p h k = (refl, refl)

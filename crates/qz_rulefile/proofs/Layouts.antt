@@ -6,7 +6,7 @@ use Rattle.std.proofs.lemmas.List.Elements.{All-from_recursion, All-append}
 use Rattle.qz_circ.specs.Circuit.{Circuit, Limits}
 use Rattle.qz_circ.specs.Order.{circuit_at}
 use Rattle.qz_circ.specs.Joined.{circuits_of_ranks}
-use Rattle.qz_circ.specs.RuleFiles.{RuleClasses, IsClass, AreClasses, class_at, member_at}
+use Rattle.qz_circ.specs.RuleFiles.{RuleClasses, IsClass, AreClasses, numbered_class, numbered_member}
 use Rattle.qz_rulefile.specs.Layout.{parts_from, parts, AreEnds, start_of}
 use Rattle.qz_rulefile.specs.Flat.{after_each, Kept, with_class, flat}
 
@@ -86,8 +86,8 @@ length-parts start (end ∷ ends) xs = ap (λ n. suc n) (length-parts end ends x
 pub record ClassKept (b : Limits) (ends members : List ℕ) (c start end : ℕ) : Type 0 where
   pub from : start ≤ end
   pub within : end ≤ length members
-  pub len : length (class_at (circuits_of_ranks b (parts ends members)) c) ≡ end - start
-  pub member : (k : ℕ) → k < end - start → member_at (circuits_of_ranks b (parts ends members)) c k ≡ circuit_at b (get_or members (start + k) 0)
+  pub len : length (numbered_class (circuits_of_ranks b (parts ends members)) c) ≡ end - start
+  pub member : (k : ℕ) → k < end - start → numbered_member (circuits_of_ranks b (parts ends members)) c k ≡ circuit_at b (get_or members (start + k) 0)
 
 pub class_kept_at : (b : Limits) (ends members : List ℕ) (c start end : ℕ) → AreEnds 0 ends (length members) → c < length ends → start ≡ start_of 0 ends c → end ≡ get_or ends c 0 → ClassKept b ends members c start end
 class_kept_at b ends members c start end e lt s t =
@@ -95,7 +95,7 @@ class_kept_at b ends members c start end e lt s t =
     let ranks = slice_range members start end in
     let listed : c < length (parts ends members) = omega (arith, length-parts 0 ends members) in
     let here : get_or (parts ends members) c [] ≡ ranks = rw (s, t) p.is in
-    let class : class_at (circuits_of_ranks b (parts ends members)) c ≡ map (circuit_at b) ranks = get_or-map (map (circuit_at b)) (parts ends members) c [] [] listed ∙ ap (map (circuit_at b)) here in
+    let class : numbered_class (circuits_of_ranks b (parts ends members)) c ≡ map (circuit_at b) ranks = get_or-map (map (circuit_at b)) (parts ends members) c [] [] listed ∙ ap (map (circuit_at b)) here in
     let count : length ranks ≡ end - start = omega (arith, length-take (end - start) (drop start members), length-drop start members, p.from, p.within, s, t) in
     record {
       from = omega (arith, p.from, s, t);
@@ -110,7 +110,7 @@ pub kept_len : (b : Limits) (ends members : List ℕ) → length (circuits_of_ra
 kept_len b ends members = length-map (parts ends members) (map (circuit_at b)) ∙ length-parts 0 ends members
 
 -- each class has two members or more, and not too many
-pub class_fit : (b : Limits) (classes : List (List Circuit)) (c : ℕ) → AreClasses b classes → c < length classes → IsClass b (class_at classes c)
+pub class_fit : (b : Limits) (classes : List (List Circuit)) (c : ℕ) → AreClasses b classes → c < length classes → IsClass b (numbered_class classes c)
 class_fit b classes c f lt = All-from_recursion (IsClass b) classes f.each c [] lt
 
 -- ---- seen as a value
@@ -128,17 +128,17 @@ in_ends b ends members v c e lt =
 pub record ClassOf (v : RuleClasses) (b : Limits) (ends members : List ℕ) (c start end : ℕ) : Type 0 where
   pub from : start ≤ end
   pub within : end ≤ length members
-  pub len : length (class_at v.classes c) ≡ end - start
+  pub len : length (numbered_class v.classes c) ≡ end - start
   pub several : 2 ≤ end - start
   pub few : end - start < 1000000000
-  pub member : (k : ℕ) → k < end - start → member_at v.classes c k ≡ circuit_at b (get_or members (start + k) 0)
+  pub member : (k : ℕ) → k < end - start → numbered_member v.classes c k ≡ circuit_at b (get_or members (start + k) 0)
 
 pub class_of : (b : Limits) (ends members : List ℕ) (v : RuleClasses) (c start end : ℕ) → seen_as b ends members ≡ v → AreEnds 0 ends (length members) → AreClasses b (circuits_of_ranks b (parts ends members)) → c < length v.classes → start ≡ start_of 0 ends c → end ≡ get_or ends c 0 → ClassOf v b ends members c start end
 class_of b ends members v c start end e are fit lt s t =
     let lt_ends = in_ends b ends members v c e lt in
     let k = class_kept_at b ends members c start end are lt_ends s t in
     let f = class_fit b (circuits_of_ranks b (parts ends members)) c fit (omega (arith, kept_len b ends members, lt_ends)) in
-    let same : class_at (circuits_of_ranks b (parts ends members)) c ≡ class_at v.classes c = ap (λ (w : RuleClasses). class_at w.classes c) e in
+    let same : numbered_class (circuits_of_ranks b (parts ends members)) c ≡ numbered_class v.classes c = ap (λ (w : RuleClasses). numbered_class w.classes c) e in
     record {
       from = k.from;
       within = k.within;
@@ -151,9 +151,9 @@ class_of b ends members v c start end e are fit lt s t =
 -- a member of the value, by its rank
 pub record MemberOf (v : RuleClasses) (b : Limits) (members : List ℕ) (c k place : ℕ) : Type 0 where
   pub within : place < length members
-  pub circuit : circuit_at b (get_or members place 0) ≡ member_at v.classes c k
+  pub circuit : circuit_at b (get_or members place 0) ≡ numbered_member v.classes c k
 
-pub member_of : (b : Limits) (ends members : List ℕ) (v : RuleClasses) (c k start : ℕ) → seen_as b ends members ≡ v → AreEnds 0 ends (length members) → AreClasses b (circuits_of_ranks b (parts ends members)) → c < length v.classes → k < length (class_at v.classes c) → start ≡ start_of 0 ends c → MemberOf v b members c k (start + k)
+pub member_of : (b : Limits) (ends members : List ℕ) (v : RuleClasses) (c k start : ℕ) → seen_as b ends members ≡ v → AreEnds 0 ends (length members) → AreClasses b (circuits_of_ranks b (parts ends members)) → c < length v.classes → k < length (numbered_class v.classes c) → start ≡ start_of 0 ends c → MemberOf v b members c k (start + k)
 member_of b ends members v c k start e are fit lt lk s =
     let class = class_of b ends members v c start (get_or ends c 0) e are fit lt s refl in
     let inside : k < get_or ends c 0 - start = omega (arith, class.len) in

@@ -2,7 +2,7 @@
 use Rattle.std.proofs.Common.{◌≡◌, ℕ, zero, suc, ◌+◌, ◌-◌, ◌≤◌, ◌<◌, List, [], ◌∷◌, ◌++◌, length, take, Ok, Err, refl, sym, ap, subst, ◌∙◌, inl, inr, append_assoc, arith, length-append}
 use Rattle.std.proofs.lemmas.Bool.{cases_lt}
 use Rattle.std.proofs.lemmas.List.{append-nil, take_at}
-use Rattle.qz_circ.specs.FaultPlaces.{Begins, IsLongest, IsPlace, IsPlaceWithin}
+use Rattle.qz_circ.specs.FaultPlaces.{Begins, IsLongest, IsFaultPlace, IsFaultPlaceWithin}
 use Rattle.qz_rulefile.specs.Reading.{Read}
 use Rattle.qz_rulefile.proofs.Exact.{Language, Faults, Exact, ok_parts}
 
@@ -37,7 +37,7 @@ longest_seen L file n f =
     })
 
 -- a fault of the reader is that of the file
-pub place_of_fault : {X : Type 0} (L : Language X) (r : List ℕ → Read X) → Exact L r → (file : List ℕ) (n : ℕ) → r file ≡ Err n → IsPlace L file (length file - n)
+pub place_of_fault : {X : Type 0} (L : Language X) (r : List ℕ → Read X) → Exact L r → (file : List ℕ) (n : ℕ) → r file ≡ Err n → IsFaultPlace L file (length file - n)
 place_of_fault L r e file n h = (
   longest_seen L file n (e.faults file n h),
   λ x text.
@@ -45,7 +45,7 @@ place_of_fault L r e file n h = (
       absurd cc,
 )
 
-pub place_within : {X : Type 0} (L : Language X) (r : List ℕ → Read X) → Exact L r → (file : List ℕ) (n : ℕ) → r file ≡ Err n → IsPlaceWithin L file (length file - n)
+pub place_within : {X : Type 0} (L : Language X) (r : List ℕ → Read X) → Exact L r → (file : List ℕ) (n : ℕ) → r file ≡ Err n → IsFaultPlaceWithin L file (length file - n)
 place_within L r e file n h = (
   longest_seen L file n (e.faults file n h),
   λ x text rest here parts.
@@ -79,7 +79,7 @@ rest_faults L r e file x rest h =
     some_none : (b : ℕ) (more : List ℕ) → b ∷ more ≡ [] → ⊥
     some_none b more e = cc
 
-pub place_of_rest : {X : Type 0} (L : Language X) (r : List ℕ → Read X) → Exact L r → (file : List ℕ) (x : X) (rest : List ℕ) → 0 < length rest → r file ≡ Ok (x, rest) → IsPlace L file (length file - length rest)
+pub place_of_rest : {X : Type 0} (L : Language X) (r : List ℕ → Read X) → Exact L r → (file : List ℕ) (x : X) (rest : List ℕ) → 0 < length rest → r file ≡ Ok (x, rest) → IsFaultPlace L file (length file - length rest)
 place_of_rest L r e file x rest some h = (
   longest_seen L file (length rest) (rest_faults L r e file x rest h),
   λ y text.
@@ -105,7 +105,7 @@ one_value L r e x y a b rest more la lb same =
     ok_parts x y rest more (sym (e.again x a rest la) ∙ ap r same ∙ e.again y b more lb)
 
 -- the same places for values of another kind
-pub place_as : {X Y : Type 0} (L : Language X) (M : Language Y) → ((x : X) (text : List ℕ) → L x text → (y : Y) × M y text) → ((y : Y) (text : List ℕ) → M y text → (x : X) × L x text) → (file : List ℕ) (n : ℕ) → IsPlace L file n → IsPlace M file n
+pub place_as : {X Y : Type 0} (L : Language X) (M : Language Y) → ((x : X) (text : List ℕ) → L x text → (y : Y) × M y text) → ((y : Y) (text : List ℕ) → M y text → (x : X) × L x text) → (file : List ℕ) (n : ℕ) → IsFaultPlace L file n → IsFaultPlace M file n
 place_as L M to from file n p = (
   record {
     fits = p.0.fits;

@@ -4,7 +4,7 @@ use Rattle.std.specs.Prelude.{Bool, ◌↔◌, IsTrue}
 use Rattle.qz_circ.specs.Circuit.{Circuit, Limits, Within, IsOn}
 use Rattle.qz_circ.specs.Bounds.{IsLawful}
 use Rattle.qz_circ.specs.Equivalence.{Equivalent}
-use Rattle.qz_circ.specs.RuleFiles.{member_at, IsSoundAt}
+use Rattle.qz_circ.specs.RuleFiles.{numbered_member, IsSoundAt}
 use Rattle.qz_circ.proofs.BoundsLemmas.{in_range}
 use Rattle.qz_circ.proofs.GateNumbers.{circuit_below}
 use Rattle.qz_circ.proofs.MoreParameters.{on_with_more}
@@ -19,11 +19,11 @@ on_qubits b h q same c w =
 
 -- the first member is equivalent to itself
 pub first_is_sound : (q : ℕ) (classes : List (List Circuit)) (c : ℕ) → AreSoundBefore q classes c 1
-first_is_sound q classes c zero less = reflexive q (member_at classes c 0)
+first_is_sound q classes c zero less = reflexive q (numbered_member classes c 0)
 first_is_sound q classes c (suc j) less = absurd (omega arith)
 
 -- one member more is sound where the matrices say so
 pub one_more_sound : (q x : ℕ) (classes : List (List Circuit)) (c k : ℕ) (same : Bool) → x ≡ q → AreSoundBefore q classes c k →
-    (IsTrue same ↔ Equivalent x (member_at classes c k) (member_at classes c 0)) → same ≡ true → AreSoundBefore q classes c (k + 1)
+    (IsTrue same ↔ Equivalent x (numbered_member classes c k) (numbered_member classes c 0)) → same ≡ true → AreSoundBefore q classes c (k + 1)
 one_more_sound q x classes c k same on before exact holds =
-    below_more (λ j. IsSoundAt q classes c j) k before (subst (λ y. Equivalent y (member_at classes c k) (member_at classes c 0)) on (exact.0 holds))
+    below_more (λ j. IsSoundAt q classes c j) k before (subst (λ y. Equivalent y (numbered_member classes c k) (numbered_member classes c 0)) on (exact.0 holds))

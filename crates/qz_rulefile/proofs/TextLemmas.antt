@@ -8,7 +8,8 @@ use Rattle.std.proofs.lemmas.Option.{slice_get_within, get_or_from_slice_get}
 use Rattle.std.proofs.Math.Seq.{take-suc}
 use Rattle.qz_circ.specs.Circuit.{Circuit, Limits}
 use Rattle.qz_circ.specs.Order.{circuit_at}
-use Rattle.qz_circ.specs.RuleText.{line, gate_text, circuit_text, member_text, class_text, head_text, classes_text, rule_text}
+use Rattle.qz_circ.specs.Lines.{line}
+use Rattle.qz_circ.specs.RuleText.{gate_text, circuit_text, member_text, class_text, head_text, classes_text, rule_text}
 
 -- where there is a gate, the gates are joined by semicolons
 pub gates_joined : (c : Circuit) → 1 ≤ length c → circuit_text c ≡ join_with_byte 59 (map gate_text c)

@@ -7,7 +7,7 @@ use Rattle.qz_circ.specs.declared.fault.RuleFault.{RuleFault}
 use Rattle.qz_circ.specs.declared.fault.RuleFault.TheVariants.{Syntax, Limit, Unsound, Memory}
 use Rattle.qz_circ.specs.Circuit.{Circuit, Limits}
 use Rattle.qz_circ.specs.Bounds.{refusal, IsLawful}
-use Rattle.qz_circ.specs.FaultPlaces.{IsPlace, IsPlaceWithin}
+use Rattle.qz_circ.specs.FaultPlaces.{IsFaultPlace, IsFaultPlaceWithin}
 use Rattle.qz_circ.specs.Joined.{circuits_of_ranks}
 use Rattle.qz_circ.specs.RuleText.{head_text, classes_text}
 use Rattle.qz_circ.specs.RuleFiles.{RuleClasses, IsFile, IsHead, HasHead, AreSound, IsSoundAt, IsFirstUnsound, Reads}
@@ -41,7 +41,7 @@ same_classes b classes others file h f g =
     sym r.2 ∙ ap (circuits_of_ranks b) same.0 ∙ s.2
 
 -- a file that begins with a head has no fault within it
-no_fault_within : (file : List ℕ) (b : Limits) (place : ℕ) → HasHead b file → IsPlaceWithin IsHead file place → ⊥
+no_fault_within : (file : List ℕ) (b : Limits) (place : ℕ) → HasHead b file → IsFaultPlaceWithin IsHead file place → ⊥
 no_fault_within file b place h p = p.1 b h.head h.rest h.is_head h.parts
 
 lawful_or_not : (b : Limits) (fault : LimitFault) → IsLawful b → refusal b ≡ Some fault → ⊥
@@ -74,14 +74,14 @@ same_place file p r (inl a) (inr b) = absurd (no_fault_within file b.0 p b.1 a)
 same_place file p r (inr a) (inl b) = absurd (no_fault_within file a.0 r a.1 b)
 same_place file p r (inr a) (inr b) =
     let same = same_head file a.0 b.0 a.1 b.1 in
-    one_place (IsFile b.0) file p r (subst (λ c. IsPlace (IsFile c) file p) same a.3).0 b.3.0
+    one_place (IsFile b.0) file p r (subst (λ c. IsFaultPlace (IsFile c) file p) same a.3).0 b.3.0
 
 -- a file with such a fault isn't the text of classes
 no_file : (file : List ℕ) (p : ℕ) (b : Limits) (classes : List (List Circuit)) → Reads file (Err (Syntax p)) → IsLawful b → IsFile b classes file → ⊥
 no_file file p b classes (inl a) h f = no_fault_within file b p (head_of_file b classes file h f) a
 no_file file p b classes (inr a) h f =
     let same = same_head file a.0 b a.1 (head_of_file b classes file h f) in
-    (subst (λ c. IsPlace (IsFile c) file p) same a.3).1 classes f
+    (subst (λ c. IsFaultPlace (IsFile c) file p) same a.3).1 classes f
 
 -- a file that is refused for its limits has no other fault, and isn't the text of classes
 no_syntax : (file : List ℕ) (p : ℕ) (fault : LimitFault) → Reads file (Err (Syntax p)) → Reads file (Err (Limit fault)) → ⊥

@@ -3,7 +3,7 @@ use Rattle.std.proofs.Common.{◌≡◌, ℕ, ◌-◌, ◌≤◌, ◌<◌, List,
 use Rattle.std.specs.List.{AllByRecursion}
 use Rattle.qz_circ.specs.Circuit.{Limits}
 use Rattle.qz_circ.specs.Bounds.{IsLawful}
-use Rattle.qz_circ.specs.FaultPlaces.{IsPlace}
+use Rattle.qz_circ.specs.FaultPlaces.{IsFaultPlace}
 use Rattle.qz_circ.specs.Joined.{circuits_of_ranks}
 use Rattle.qz_circ.specs.RuleFiles.{AreClasses, IsFile, IsHead, HasHead}
 use Rattle.qz_rulefile.specs.Layout.{parts}
@@ -51,12 +51,12 @@ kept_file b h bytes rest members ends head k none is_head =
     subst (λ (ps : List (List ℕ)). IsFile b (circuits_of_ranks b ps) (head ++ bytes)) (sym k.keeps.parts_are) (file_of_ranks b k.lists (head ++ bytes) whole)
 
 -- places among files of ranks are those among files of circuits
-place_of_circuits : (b : Limits) → IsLawful b → (file : List ℕ) (n : ℕ) → IsPlace (IsRankFile b) file n → IsPlace (IsFile b) file n
+place_of_circuits : (b : Limits) → IsLawful b → (file : List ℕ) (n : ℕ) → IsFaultPlace (IsRankFile b) file n → IsFaultPlace (IsFile b) file n
 place_of_circuits b h file n p =
     place_as (IsRankFile b) (IsFile b) (λ lists text f. (circuits_of_ranks b lists, file_of_ranks b lists text f)) (λ classes text f. let r = ranks_of_file b h classes text f in (r.0, r.1)) file n p
 
 -- bytes behind the end are a fault
-pub rest_place : (b : Limits) → IsLawful b → (bytes rest members ends head : List ℕ) → KeptClasses b bytes rest members ends → 0 < length rest → IsHead b head → IsPlace (IsFile b) (head ++ bytes) (length (head ++ bytes) - length rest)
+pub rest_place : (b : Limits) → IsLawful b → (bytes rest members ends head : List ℕ) → KeptClasses b bytes rest members ends → 0 < length rest → IsHead b head → IsFaultPlace (IsFile b) (head ++ bytes) (length (head ++ bytes) - length rest)
 rest_place b h bytes rest members ends head k some is_head =
     let read : file_at b (head ++ bytes) ≡ Ok (k.lists, rest) = behind_head b head bytes (head ++ bytes) is_head refl ∙ k.read in
     place_of_circuits b h (head ++ bytes) (length (head ++ bytes) - length rest) (place_of_rest (IsRankFile b) (file_at b) (file_exact b h) (head ++ bytes) k.lists rest some read)
@@ -67,7 +67,7 @@ rest_within b h bytes rest members ends k =
     omega (arith, ap length t.2, length-append t.0 rest)
 
 -- a fault behind the first two lines
-pub fault_place : (b : Limits) → IsLawful b → (bytes head : List ℕ) (n : ℕ) → kept_at b bytes ≡ Err n → IsHead b head → IsPlace (IsFile b) (head ++ bytes) (length (head ++ bytes) - n)
+pub fault_place : (b : Limits) → IsLawful b → (bytes head : List ℕ) (n : ℕ) → kept_at b bytes ≡ Err n → IsHead b head → IsFaultPlace (IsFile b) (head ++ bytes) (length (head ++ bytes) - n)
 fault_place b h bytes head n e is_head =
     let read : file_at b (head ++ bytes) ≡ Err n = behind_head b head bytes (head ++ bytes) is_head refl ∙ kept_fault b bytes n e in
     place_of_circuits b h (head ++ bytes) (length (head ++ bytes) - n) (place_of_fault (IsRankFile b) (file_at b) (file_exact b h) (head ++ bytes) n read)

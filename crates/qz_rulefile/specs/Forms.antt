@@ -4,7 +4,7 @@ use Rattle.qz_circ.specs.declared.fault.RuleFault.{RuleFault}
 use Rattle.qz_circ.specs.declared.fault.RuleFault.TheVariants as refused
 use Rattle.qz_circ.specs.Circuit.{Limits}
 use Rattle.qz_circ.specs.Bounds.{IsLawful}
-use Rattle.qz_circ.specs.FaultPlaces.{IsPlace}
+use Rattle.qz_circ.specs.FaultPlaces.{IsFaultPlace}
 use Rattle.qz_circ.specs.RuleFiles.{RuleClasses, IsFile, IsHead, Reads}
 use Rattle.qz_rulefile.specs.declared.faults.ReadError.{ReadError}
 use Rattle.qz_rulefile.specs.declared.faults.ReadError.TheVariants.{Memory, Left}
@@ -14,7 +14,7 @@ use Rattle.qz_rulefile.specs.declared.faults.ReadError.TheVariants.{Memory, Left
 abbrev pub TellsClasses : Limits → List ℕ → Result RuleClasses ReadError → Type 0
 TellsClasses b rest (Ok v) = (v.bounds ≡ b) × ((head : List ℕ) → IsHead b head → IsFile b v.classes (head ++ rest))
 TellsClasses b rest (Err Memory) = Unit {0}
-TellsClasses b rest (Err (Left n)) = (n ≤ length rest) × ((head : List ℕ) → IsHead b head → IsPlace (IsFile b) (head ++ rest) (length (head ++ rest) - n))
+TellsClasses b rest (Err (Left n)) = (n ≤ length rest) × ((head : List ℕ) → IsHead b head → IsFaultPlace (IsFile b) (head ++ rest) (length (head ++ rest) - n))
 
 -- The reading of a file but for soundness: classes within lawful limits of which the file is the text, or why it is none,
 -- unless memory ran out.

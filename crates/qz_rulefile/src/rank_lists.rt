@@ -3,7 +3,7 @@ ghost use Rattle.std.specs.Prelude.{◌≡◌, ◌<◌, ◌≤◌, length, slice
 ghost use Rattle.qz_circ.specs.Circuit.{Within};
 ghost use Rattle.qz_circ.specs.ClassLists.{AreRanks};
 ghost use Rattle.qz_circ.specs.Joined.{circuits_of_ranks};
-ghost use Rattle.qz_circ.specs.RuleFiles.{AreClasses, class_at, member_at};
+ghost use Rattle.qz_circ.specs.RuleFiles.{AreClasses, numbered_class, numbered_member};
 ghost use Rattle.qz_rulefile.specs.Layout.{parts, AreEnds, start_of};
 
 use qz_circ::{Bounds, Memory, Op, unrank};
@@ -103,7 +103,7 @@ impl RankLists {
     /// How many members the class with this number has. Classes are counted from 0.
     pub(crate) fn class_len(&self, c: u64) -> u64
         requires { c < length self.now.classes }
-        ensures len { result ≡ length (class_at self.now.classes c) }
+        ensures len { result ≡ length (numbered_class self.now.classes c) }
         ensures several { 2 ≤ result }
         ensures few { result < 1000000000 }
     {
@@ -114,8 +114,8 @@ impl RankLists {
     /// The member with number k of the class with number c. Both are counted from 0.
     pub(crate) fn member(&self, c: u64, k: u64) -> Result<Vec<Op>, Memory>
         requires in_classes { c < length self.now.classes }
-        requires in_class { k < length (class_at self.now.classes c) }
-        ensures member { IfOk result (λ circuit. circuit.items ≡ member_at self.now.classes c k) }
+        requires in_class { k < length (numbered_class self.now.classes c) }
+        ensures member { IfOk result (λ circuit. circuit.items ≡ numbered_member self.now.classes c k) }
         ensures within { IfOk result (λ circuit. Within self.now.bounds circuit.items) }
     {
         let members = self.members.as_slice();

@@ -3,7 +3,8 @@ ghost use Rattle.std.specs.Prelude.{◌≡◌, ◌<◌, ◌++◌, map, length, O
 ghost use Rattle.std.specs.Fmt.{decimal};
 ghost use Rattle.qz_circ.specs.ClassLists.{AreRanks};
 ghost use Rattle.qz_circ.specs.Order.{all_circuits, circuit_at};
-ghost use Rattle.qz_circ.specs.RuleText.{line, angle_text, gate_text, circuit_text, head_text, member_text, class_text, rule_text};
+ghost use Rattle.qz_circ.specs.Lines.{line};
+ghost use Rattle.qz_circ.specs.RuleText.{expression_text, gate_text, circuit_text, head_text, member_text, class_text, rule_text};
 
 use itoa::Buffer;
 use qz_circ::{Bounds, Classes, Expr, Memory, Op, unrank};
@@ -27,9 +28,9 @@ fn push_count(out: &mut Vec<u8>, letters: &[u8], n: u64) -> Result<(), AllocErro
     Ok(())
 }
 
-#[tactic(auto, unfolding(qz_circ::specs::RuleText::angle_text))]
+#[tactic(auto, unfolding(qz_circ::specs::RuleText::expression_text))]
 fn push_angle(out: &mut Vec<u8>, e: Expr) -> Result<(), AllocError>
-    ensures { OnOk result (out.new.items ≡ out.old.items ++ angle_text e) }
+    ensures { OnOk result (out.new.items ≡ out.old.items ++ expression_text e) }
 {
     match e {
         Expr::Const(t) => push_part(out, b"", t as u64),

@@ -2,7 +2,7 @@
 ghost use Rattle.std.specs.Prelude.{◌≡◌, ◌<◌, ◌≤◌, length, IfOk};
 ghost use Rattle.qz_circ.specs.Bounds.{IsLawful};
 ghost use Rattle.qz_circ.specs.Circuit.{Within};
-ghost use Rattle.qz_circ.specs.RuleFiles.{AreClasses, AreSound, class_at, member_at};
+ghost use Rattle.qz_circ.specs.RuleFiles.{AreClasses, AreSound, numbered_class, numbered_member};
 
 use crate::rank_lists::RankLists;
 use qz_circ::{Bounds, Memory, Op};
@@ -53,7 +53,7 @@ impl Rules {
     /// How many members the class with this number has. Classes are counted from 0.
     pub fn class_len(&self, c: u64) -> u64
         requires { c < length self.now.classes }
-        ensures len { result ≡ length (class_at self.now.classes c) }
+        ensures len { result ≡ length (numbered_class self.now.classes c) }
         ensures several { 2 ≤ result }
         ensures few { result < 1000000000 }
     {
@@ -63,8 +63,8 @@ impl Rules {
     /// The member with number k of the class with number c. Both are counted from 0.
     pub fn member(&self, c: u64, k: u64) -> Result<Vec<Op>, Memory>
         requires in_classes { c < length self.now.classes }
-        requires in_class { k < length (class_at self.now.classes c) }
-        ensures member { IfOk result (λ circuit. circuit.items ≡ member_at self.now.classes c k) }
+        requires in_class { k < length (numbered_class self.now.classes c) }
+        ensures member { IfOk result (λ circuit. circuit.items ≡ numbered_member self.now.classes c k) }
         ensures within { IfOk result (λ circuit. Within self.now.bounds circuit.items) }
     {
         self.lists.member(c, k)

@@ -1,6 +1,6 @@
 //! Whether the members of classes are equivalent to the first ones.
 ghost use Rattle.std.specs.Prelude.{◌≡◌, ◌<◌, ◌≤◌, length, IfOk, IfSome};
-ghost use Rattle.qz_circ.specs.RuleFiles.{IsUnsoundness, class_at, member_at};
+ghost use Rattle.qz_circ.specs.RuleFiles.{IsUnsoundness, numbered_class, numbered_member};
 ghost use Rattle.qz_matrix.specs.Entries.{StandsFor};
 ghost use Rattle.qz_rulefile.specs.Soundness.{IsUnsoundIn};
 
@@ -15,10 +15,10 @@ use std::sync::ledger::{Blank, Ledger};
 // The matrix of the member with number k of the class with number c. Both are counted from 0.
 fn matrix_of(alloc: Global, lists: &RankLists, c: u64, k: u64) -> Result<Matrix, Memory>
     requires in_classes { c < length lists.now.classes }
-    requires in_class { k < length (class_at lists.now.classes c) }
+    requires in_class { k < length (numbered_class lists.now.classes c) }
     ensures qubits { IfOk result (λ m. m.q ≡ lists.now.bounds.q) }
     ensures few { IfOk result (λ m. m.gates ≤ 6) }
-    ensures stands { IfOk result (λ m. StandsFor m (member_at lists.now.classes c k)) }
+    ensures stands { IfOk result (λ m. StandsFor m (numbered_member lists.now.classes c k)) }
 {
     let circuit = lists.member(c, k)?;
     let matrix = Matrix::of(alloc, &circuit, lists.bounds().q())?;

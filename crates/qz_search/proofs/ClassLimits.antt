@@ -5,7 +5,7 @@ use Rattle.std.specs.List.{AllByRecursion}
 use Rattle.qz_circ.specs.Circuit.{Circuit, Limits, Within, IsOn, ActsBelow, HasBelow}
 use Rattle.qz_circ.specs.Bounds.{IsLawful}
 use Rattle.qz_circ.specs.Equivalence.{Equivalent}
-use Rattle.qz_circ.specs.RuleFiles.{IsClass, AreClasses, AreSound, class_at, member_at}
+use Rattle.qz_circ.specs.RuleFiles.{IsClass, AreClasses, AreSound, numbered_class, numbered_member}
 use Rattle.qz_circ.specs.Replacement.{numbered}
 use Rattle.qz_circ.proofs.BoundsLemmas.{InRange, in_range}
 use Rattle.qz_circ.proofs.GateNumbers.{circuit_below}
@@ -35,10 +35,10 @@ on_three b lawful c w =
     (each_weaker (λ g. ActsBelow b.q g × HasBelow 3 g) (λ g. ActsBelow 3 g × HasBelow 3 g) (λ g h. (acts_on_more b.q 3 range.qubits g h.0, h.1)) c on, omega (arith, range.gates, w.short))
 
 -- the members of a class
-pub rule_sides : (b : Limits) (classes : List (List Circuit)) (c : ℕ) → IsLawful b → AreClasses b classes → c < length classes → AreRuleSides (class_at classes c)
+pub rule_sides : (b : Limits) (classes : List (List Circuit)) (c : ℕ) → IsLawful b → AreClasses b classes → c < length classes → AreRuleSides (numbered_class classes c)
 rule_sides b classes c lawful fit less =
     let class = at_number (IsClass b) [] classes c fit.each less in
-    each_weaker (Within b) (λ a. IsOn 3 3 a × (length a ≤ 6)) (on_three b lawful) (class_at classes c) class.within
+    each_weaker (Within b) (λ a. IsOn 3 3 a × (length a ≤ 6)) (on_three b lawful) (numbered_class classes c) class.within
 
 -- the classes are sound
 pub sound_classes : (b : Limits) (classes : List (List Circuit)) → IsLawful b → AreClasses b classes → AreSound b.q classes → (n : ℕ) × (n ≤ 3) × AreSoundClasses n classes
@@ -46,16 +46,16 @@ sound_classes b classes lawful fit sound = (
   b.q,
   range.qubits,
   by_numbers (IsSoundClass b.q) [] classes (λ c less.
-      by_numbers (λ a. IsOn b.q 3 a × Equivalent b.q (numbered (class_at classes c) 0) a) [] (class_at classes c) (λ k also. (
+      by_numbers (λ a. IsOn b.q 3 a × Equivalent b.q (numbered (numbered_class classes c) 0) a) [] (numbered_class classes c) (λ k also. (
         on c k less also,
-        symmetric b.q (member_at classes c k) (member_at classes c 0) (sound c k less also),
+        symmetric b.q (numbered_member classes c k) (numbered_member classes c 0) (sound c k less also),
       ))),
 )
   where
     range : InRange b
     range = in_range b lawful
 
-    on : (c k : ℕ) → c < length classes → k < length (class_at classes c) → IsOn b.q 3 (member_at classes c k)
+    on : (c k : ℕ) → c < length classes → k < length (numbered_class classes c) → IsOn b.q 3 (numbered_member classes c k)
     on c k less also =
-        let w = at_number (Within b) [] (class_at classes c) k (at_number (IsClass b) [] classes c fit.each less).within also in
-        on_with_more b.q b.m 3 (member_at classes c k) range.params (circuit_below b (member_at classes c k) w.gates)
+        let w = at_number (Within b) [] (numbered_class classes c) k (at_number (IsClass b) [] classes c fit.each less).within also in
+        on_with_more b.q b.m 3 (numbered_member classes c k) range.params (circuit_below b (numbered_member classes c k) w.gates)

@@ -24,7 +24,7 @@ fn is_lost(queue: &Queue, most: u64, n: u64) -> bool
     requires { IsQueue queue.now }
     ensures { IsTrue result → (seen : List ProgramCircuit) (c : ProgramCircuit) → cost c ≡ n → queue.now ≡ offered_to queue.now (filter (is_new seen most) (c ∷ [])) }
 {
-    n > most || queue.is_closed_to(n)
+    n > most || queue.is_closed_to_cost(n)
 }
 
 // What a circuit costs with the instance of right in place of left.

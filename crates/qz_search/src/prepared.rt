@@ -3,7 +3,7 @@
 ghost use Rattle.std.specs.Prelude.{◌≡◌, ℕ, ◌+◌, ◌<◌, ◌≤◌, ◌++◌, ◌∷◌, [], List, length, filter, cond, IfOk, OnOk};
 ghost use Rattle.std.specs.List.{AllByRecursion};
 ghost use Rattle.qz_circ.specs.Circuit.{IsOn, below};
-ghost use Rattle.qz_circ.specs.RuleFiles.{class_at};
+ghost use Rattle.qz_circ.specs.RuleFiles.{numbered_class};
 ghost use Rattle.qz_rewrite.specs.SoundClasses.{AreSoundClasses};
 ghost use Rattle.qz_search.specs.PreparedRules.{rule_circuits, AreRuleSides, goes_with, ArePrepared, IsPreparedClass};
 
@@ -135,7 +135,7 @@ fn sides_of(alloc: Global, members: &[Vec<Op>]) -> Result<Vec<LeftSide>, Memory>
 // The members of a class as circuits.
 fn members_of(alloc: Global, rules: &Rules, c: u64) -> Result<Vec<Vec<Op>>, Memory>
     requires { c < length rules.now.classes }
-    ensures { IfOk result (λ members. rule_circuits members.items ≡ class_at rules.now.classes c) }
+    ensures { IfOk result (λ members. rule_circuits members.items ≡ numbered_class rules.now.classes c) }
 {
     let mut members = Vec::new(alloc);
     for k in 0..rules.class_len(c) {

@@ -48,7 +48,7 @@ fn queue_with(alloc: Global, c: &[Inst]) -> Option<Queue>
 
 // Which circuits a full queue is closed to, and which it holds.
 fn is_closed(queue: &Queue) -> bool {
-    queue.is_closed_to(2) && !queue.is_closed_to(1) && !queue.contains(&[])
+    queue.is_closed_to_cost(2) && !queue.is_closed_to_cost(1) && !queue.contains(&[])
 }
 
 // Merges a queue that holds one circuit into another.

@@ -1,4 +1,4 @@
-use Rattle.std.proofs.Common.{lit≤, lit<, arith}
+use Rattle.std.proofs.Common.{lit<, arith}
 use Rattle.qz_circ.proofs.worked_programs.statements_are_told.Goals as goal
 
 pub returns-clause-single : goal.returns-clause-single

@@ -1,7 +1,7 @@
 use Rattle.std.proofs.Common.{◌-◌, sym, ap, subst, rules, arith, inl, inr, length, length-append, Err, List, ℕ}
 use Rattle.qz_circ.specs.Bounds.{IsLawful}
 use Rattle.qz_circ.specs.Circuit.{Limits}
-use Rattle.qz_circ.specs.FaultPlaces.{IsPlace}
+use Rattle.qz_circ.specs.FaultPlaces.{IsFaultPlace}
 use Rattle.qz_circ.specs.RuleFiles.{IsFile, IsHead}
 use Rattle.qz_rulefile.specs.Forms.{TellsClasses}
 use Rattle.qz_rulefile.specs.declared.faults.ReadError.TheVariants.{Left}
@@ -43,5 +43,5 @@ returns-in-Err-Left c =
     let told : TellsClasses c.in-Ok-new.b c.in-Ok.head.1.now (Err (Left c.in-Err-Left.n)) = subst (λ f. TellsClasses c.in-Ok-new.b c.in-Ok.head.1.now (Err f)) c.in-Err-Left.field-0-is c.in-Err-Left.ensures in
     let t = head_of (record { n = c.in-Ok.head.0.n; q = c.in-Ok.head.0.q; m = c.in-Ok.head.0.m }) c.args.bytes.now c.in-Ok.head.1.now c.in-Ok.ensures in
     let is_head : IsHead c.in-Ok-new.b t.0 = subst (λ (b : Limits). IsHead b t.0) (sym c.in-Ok-new.ensures.accepted) t.1 in
-    let place : IsPlace (IsFile c.in-Ok-new.b) c.args.bytes.now (length c.args.bytes.now - c.in-Err-Left.n) = subst (λ (z : List ℕ). IsPlace (IsFile c.in-Ok-new.b) z (length z - c.in-Err-Left.n)) (sym t.2) (told.1 t.0 is_head) in
+    let place : IsFaultPlace (IsFile c.in-Ok-new.b) c.args.bytes.now (length c.args.bytes.now - c.in-Err-Left.n) = subst (λ (z : List ℕ). IsFaultPlace (IsFile c.in-Ok-new.b) z (length z - c.in-Err-Left.n)) (sym t.2) (told.1 t.0 is_head) in
     inr (c.in-Ok-new.b, record { head = t.0; rest = c.in-Ok.head.1.now; is_head = is_head; parts = t.2 }, lawful, place)

@@ -5,4 +5,4 @@ use Rattle.qz_search.proofs.children.is_lost.Goals as goal
 pub returns-else-n-most : goal.returns-else-n-most
 returns-else-n-most c = λ closed seen d e.
     let dear : c.args.n ≤ length d = omega (arith, e) in
-    closed_lost c.args.queue.now seen c.args.most d c.requires (c.is_closed_to.ensures.refused closed d dear)
+    closed_lost c.args.queue.now seen c.args.most d c.requires (c.is_closed_to_cost.ensures.refused closed d dear)

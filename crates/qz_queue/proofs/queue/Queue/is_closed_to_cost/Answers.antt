@@ -4,7 +4,7 @@ use Rattle.qz_circ.specs.ProgramCircuits.{cost}
 use Rattle.qz_queue.specs.Circuits.{circuits}
 use Rattle.qz_queue.specs.HeldQueue.{queue_of}
 use Rattle.qz_queue.proofs.Costs.{closed_exact, closed_refuses, last_of}
-use Rattle.qz_queue.proofs.queue.Queue.is_closed_to.Goals as goal
+use Rattle.qz_queue.proofs.queue.Queue.is_closed_to_cost.Goals as goal
 
 last_cost : (c : goal.After-len-in-Some) → c.len-in-Some.result ≡ cost (get_or (circuits c.self.inside.list.items) (length (circuits c.self.inside.list.items) - 1) [])
 last_cost c =
