@@ -1,8 +1,8 @@
 //! What `tidy` writes for some programs, why it refuses others, and how it ends where the outside fails.
 
-use crate::tests::programs::measured_lines;
 use qz_circ::{AngleFault, QasmFault, Which};
 use qz_io::{MemSink, MemSource, SureShelf, SureSink};
+use qz_samples::{measured_lines, two_registers};
 use qz_top::{Status, run_solo};
 use std::alloc::{AllocError, Global};
 use std::process::Abort;
@@ -92,20 +92,6 @@ fn tidies_statement(
     let text = one_qubit_text(alloc, lines)?;
     tidies(rt, alloc, &program, &text);
     Ok(())
-}
-
-// Two registers of qubits, one of bits, and a tail.
-pub(super) fn two_registers() -> &'static [u8] {
-    b"OPENQASM 2.0;\n\
-include \"qelib1.inc\";\n\
-qreg q[2];\n\
-qreg a[1];\n\
-creg c[2];\n\
-h q[0];\n\
-ccx q[0],q[1],a[0];\n\
-barrier q[0],q[1],a[0];\n\
-measure q[0] -> c[0];\n\
-measure q[1] -> c[1];\n"
 }
 
 #[test]

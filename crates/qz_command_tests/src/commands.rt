@@ -2,113 +2,12 @@
 
 use qz_circ::Which;
 use qz_io::{MemSink, SureShelf, SureSink, SureSource};
+use qz_samples::two_gates;
 use qz_top::{Status, run_solo};
 use std::alloc::{AllocError, Global};
 use std::process::Abort;
 use std::str;
 use std::test::Fail;
-
-// The rules of the identities of at most two gates on one qubit.
-pub(super) fn two_gates() -> &'static str {
-    "quartz-rules 1\n\
-bounds 2 1 0\n\
-classes 17\n\
-class 10\n\
--\n\
-h 0;h 0\n\
-x 0;x 0\n\
-rz(1) 0;rz(7) 0\n\
-rz(2) 0;rz(6) 0\n\
-rz(3) 0;rz(5) 0\n\
-rz(4) 0;rz(4) 0\n\
-rz(5) 0;rz(3) 0\n\
-rz(6) 0;rz(2) 0\n\
-rz(7) 0;rz(1) 0\n\
-class 7\n\
-rz(1) 0\n\
-rz(2) 0;rz(7) 0\n\
-rz(3) 0;rz(6) 0\n\
-rz(4) 0;rz(5) 0\n\
-rz(5) 0;rz(4) 0\n\
-rz(6) 0;rz(3) 0\n\
-rz(7) 0;rz(2) 0\n\
-class 7\n\
-rz(2) 0\n\
-rz(1) 0;rz(1) 0\n\
-rz(3) 0;rz(7) 0\n\
-rz(4) 0;rz(6) 0\n\
-rz(5) 0;rz(5) 0\n\
-rz(6) 0;rz(4) 0\n\
-rz(7) 0;rz(3) 0\n\
-class 7\n\
-rz(3) 0\n\
-rz(1) 0;rz(2) 0\n\
-rz(2) 0;rz(1) 0\n\
-rz(4) 0;rz(7) 0\n\
-rz(5) 0;rz(6) 0\n\
-rz(6) 0;rz(5) 0\n\
-rz(7) 0;rz(4) 0\n\
-class 7\n\
-rz(4) 0\n\
-rz(1) 0;rz(3) 0\n\
-rz(2) 0;rz(2) 0\n\
-rz(3) 0;rz(1) 0\n\
-rz(5) 0;rz(7) 0\n\
-rz(6) 0;rz(6) 0\n\
-rz(7) 0;rz(5) 0\n\
-class 7\n\
-rz(5) 0\n\
-rz(1) 0;rz(4) 0\n\
-rz(2) 0;rz(3) 0\n\
-rz(3) 0;rz(2) 0\n\
-rz(4) 0;rz(1) 0\n\
-rz(6) 0;rz(7) 0\n\
-rz(7) 0;rz(6) 0\n\
-class 7\n\
-rz(6) 0\n\
-rz(1) 0;rz(5) 0\n\
-rz(2) 0;rz(4) 0\n\
-rz(3) 0;rz(3) 0\n\
-rz(4) 0;rz(2) 0\n\
-rz(5) 0;rz(1) 0\n\
-rz(7) 0;rz(7) 0\n\
-class 7\n\
-rz(7) 0\n\
-rz(1) 0;rz(6) 0\n\
-rz(2) 0;rz(5) 0\n\
-rz(3) 0;rz(4) 0\n\
-rz(4) 0;rz(3) 0\n\
-rz(5) 0;rz(2) 0\n\
-rz(6) 0;rz(1) 0\n\
-class 2\n\
-h 0;x 0\n\
-rz(4) 0;h 0\n\
-class 2\n\
-h 0;rz(4) 0\n\
-x 0;h 0\n\
-class 2\n\
-x 0;rz(1) 0\n\
-rz(7) 0;x 0\n\
-class 2\n\
-x 0;rz(2) 0\n\
-rz(6) 0;x 0\n\
-class 2\n\
-x 0;rz(3) 0\n\
-rz(5) 0;x 0\n\
-class 2\n\
-x 0;rz(4) 0\n\
-rz(4) 0;x 0\n\
-class 2\n\
-x 0;rz(5) 0\n\
-rz(3) 0;x 0\n\
-class 2\n\
-x 0;rz(6) 0\n\
-rz(2) 0;x 0\n\
-class 2\n\
-x 0;rz(7) 0\n\
-rz(1) 0;x 0\n\
-end\n"
-}
 
 // The words of this text, which are parted by single spaces.
 fn words_of(alloc: Global, text: &str) -> Result<Vec<String>, AllocError> {

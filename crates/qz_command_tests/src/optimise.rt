@@ -1,12 +1,10 @@
 //! What `optimise` writes for some programs, why it refuses some rule files without reading the input, and how it ends where the
 //! outside fails.
 
-use crate::tests::commands::two_gates;
-use crate::tests::programs::measured_lines;
-use crate::tests::tidy::two_registers;
 use qz_circ::{Inst, Memory, QasmFault, RuleFault, Which};
 use qz_io::{MemShelf, MemSink, MemSource, Named, SureSink};
 use qz_rulefile::{Rules, read};
+use qz_samples::{measured_lines, two_gates, two_registers};
 use qz_search::{Plan, search};
 use qz_top::{Status, run_solo};
 use std::alloc::{AllocError, Global};

@@ -7,6 +7,7 @@ ghost use Rattle.qz_circ.specs.ValidPrograms.{Valid};
 
 use qz_circ::{Arg, Inst, Memory, Program};
 use qz_qwrite::write;
+use qz_samples::measured_lines;
 use std::alloc::Global;
 use std::process::Abort;
 use std::test::Fail;
@@ -77,34 +78,6 @@ fn is_text(found: Result<Vec<u8>, Memory>, wanted: &[u8]) -> bool {
         Ok(text) => text.as_slice() == wanted,
         Err(_) => false,
     }
-}
-
-// The canonical text of H on the first qubit and a doubly controlled NOT of the third.
-pub(super) fn measured_lines() -> &'static [u8] {
-    b"OPENQASM 2.0;\n\
-include \"qelib1.inc\";\n\
-qreg q[2];\n\
-qreg a[1];\n\
-creg c[2];\n\
-h q[0];\n\
-h a[0];\n\
-cx q[1],a[0];\n\
-rz(-pi/4) a[0];\n\
-cx q[0],a[0];\n\
-rz(pi/4) a[0];\n\
-cx q[1],a[0];\n\
-rz(-pi/4) a[0];\n\
-cx q[0],a[0];\n\
-rz(pi/4) q[1];\n\
-rz(pi/4) a[0];\n\
-h a[0];\n\
-cx q[0],q[1];\n\
-rz(pi/4) q[0];\n\
-rz(-pi/4) q[1];\n\
-cx q[0],q[1];\n\
-barrier q[0],q[1],a[0];\n\
-measure q[0] -> c[0];\n\
-measure q[1] -> c[1];\n"
 }
 
 // H on the first qubit and a doubly controlled NOT of the third.

@@ -3,9 +3,9 @@ ghost use Rattle.std.specs.Prelude.{◌≤◌, length};
 ghost use Rattle.std.specs.List.{AllByRecursion};
 ghost use Rattle.qz_circ.specs.ProgramCircuits.{IsProgramGate};
 
-use crate::tests::commands::two_gates;
 use qz_circ::Inst;
 use qz_rulefile::{Rules, read};
+use qz_samples::two_gates;
 use qz_search::{Plan, search};
 use std::alloc::Global;
 use std::test::Fail;

@@ -1,5 +1,0 @@
-use Rattle.quartz.proofs.SamplePrograms.{empty_is_valid}
-use Rattle.quartz.proofs.tests.programs.empty_text.Goals as goal
-
-pub write-requires : goal.write-requires
-write-requires c = rw c.empty.ensures empty_is_valid

@@ -1,0 +1,9 @@
+//! Tests of the commands from their words to what they write.
+#![tactic(auto)]
+
+#[cfg(test)]
+mod commands;
+#[cfg(test)]
+mod optimise;
+#[cfg(test)]
+mod tidy;
