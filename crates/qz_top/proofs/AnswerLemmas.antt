@@ -12,7 +12,7 @@ use Rattle.qz_top.specs.declared.words.Command.{Command}
 use Rattle.qz_top.specs.declared.words.WordFault.{WordFault}
 use Rattle.qz_top.specs.declared.words.WordFault.TheVariants as word_fault
 use Rattle.qz_top.specs.Status.{IsRefusal, IsBeforeInput, WritesNothing}
-use Rattle.qz_top.specs.Answer.{Answer, Given, Output, Storage, Outside, IsTold, AreTold, IsCalm, status_alone, done, IsCarriedOut}
+use Rattle.qz_top.specs.Answer.{Answer, Given, Output, Storage, Outside, IsTold, AreTold, IsCalm, refused_with, done, IsCarriedOut}
 use Rattle.qz_top.specs.Making.{IsToBeWritten, EndsEarly, EndsUnread}
 use Rattle.qz_top.specs.Run.{status_of_words, CommandAnswers, WordsAnswer}
 use Rattle.qz_top.specs.Words.{command_of}
@@ -32,6 +32,7 @@ refusal_writes_nothing status.NoFile r = tt
 refusal_writes_nothing status.ReadFault r = tt
 refusal_writes_nothing status.WriteFault r = r
 refusal_writes_nothing status.ShelfFault r = tt
+refusal_writes_nothing status.Unbuilt r = tt
 
 -- at a status that comes before any input nothing is written
 pub before_writes_nothing : (s : Status) → IsBeforeInput s → WritesNothing s
@@ -46,6 +47,7 @@ before_writes_nothing status.NoFile b = tt
 before_writes_nothing status.ReadFault b = absurd b
 before_writes_nothing status.WriteFault b = b
 before_writes_nothing status.ShelfFault b = tt
+before_writes_nothing status.Unbuilt b = tt
 
 -- what is left of the statuses where something may be written, and there is no write fault
 done_or_memory : (s : Status) → (WritesNothing s → ⊥) → s ≢ status.WriteFault → (s ≡ status.Ok) ⊎ (s ≡ status.Memory)
@@ -60,6 +62,7 @@ done_or_memory status.NoFile n w = absurd (n tt)
 done_or_memory status.ReadFault n w = absurd (n tt)
 done_or_memory status.WriteFault n w = absurd (w refl)
 done_or_memory status.ShelfFault n w = absurd (n tt)
+done_or_memory status.Unbuilt n w = absurd (n tt)
 
 -- a refusal is not success
 refusal_is_not_ok : (s : Status) → IsRefusal s → s ≢ status.Ok
@@ -122,7 +125,7 @@ carried_by_text Answers text s outside made begun whole part failed answered = r
 -- what ends a command early with a status: where the status comes from, and what it passes over
 pub record Ending (Answers : Given → Answer → Type 0) (s : Status) (input : Input) (shelf : Storage) (given : Given) : Type 0 where
   pub told : AreTold input shelf given
-  pub refused : IsRefusal s → Answers given (status_alone s)
+  pub refused : IsRefusal s → Answers given (refused_with s)
   pub read_failed : s ≡ status.ReadFault → Rose input.faults_before input.faults_after
   pub shelf_failed : s ≡ status.ShelfFault → Rose shelf.faults_before shelf.faults_after
   pub complete : (b : Answer) → Answers given b → (Rose input.faults_before input.faults_after → ⊥) → (Rose shelf.faults_before shelf.faults_after → ⊥) → (s ≡ b.status) ⊎ (s ≡ status.Memory)
@@ -166,7 +169,7 @@ memory_ends Answers input shelf given told answered shelf_answered =
     })
 
 -- so it does by a refusal that is the only answer
-pub refusal_ends : (Answers : Given → Answer → Type 0) (s : Status) (input : Input) (shelf : Storage) (given : Given) → AreTold input shelf given → IsRefusal s → Answers given (status_alone s) → ((b : Answer) → Answers given b → b.status ≡ s) →
+pub refusal_ends : (Answers : Given → Answer → Type 0) (s : Status) (input : Input) (shelf : Storage) (given : Given) → AreTold input shelf given → IsRefusal s → Answers given (refused_with s) → ((b : Answer) → Answers given b → b.status ≡ s) →
     (IsTrue input.answers_faults → input.faults_after ≡ input.faults_before) → (IsTrue shelf.answers_faults → shelf.faults_after ≡ shelf.faults_before) → EndsEarly Answers s input shelf
 refusal_ends Answers s input shelf given told refusal is only answered shelf_answered =
     let other : (t : Status) → (IsRefusal t → ⊥) → s ≢ t = λ t free e. free (subst IsRefusal e refusal) in
@@ -223,7 +226,7 @@ no_read_fault Answers s shelf ends e = still_not_rose (((ends still_input refl).
 -- the answers to words that ask for a command are the command's
 pub words_carried : (words : List (List ℕ)) (command : Command) (s : Status) (outside : Outside) → Ok command ≡ command_of words → IsCarriedOut (CommandAnswers words command) s outside → IsCarriedOut (WordsAnswer words) s outside
 words_carried words command s outside e carried =
-    subst (λ (r : Result Command WordFault). IsCarriedOut (λ given answer. MatchResult r (λ k. CommandAnswers words k given answer) (λ refused. answer ≡ status_alone (status_of_words refused))) s outside) e carried
+    subst (λ (r : Result Command WordFault). IsCarriedOut (λ given answer. MatchResult r (λ k. CommandAnswers words k given answer) (λ refused. answer ≡ refused_with (status_of_words refused))) s outside) e carried
 
 -- words are refused by a refusal
 words_refusal : (fault : WordFault) → IsRefusal (status_of_words fault)
@@ -234,5 +237,5 @@ words_refusal (word_fault.Limit which) = tt
 pub words_refused : (words : List (List ℕ)) (fault : WordFault) (input : Input) (shelf : Storage) → Err fault ≡ command_of words → input.faults_after ≡ input.faults_before → IsCalm shelf → EndsEarly (WordsAnswer words) (status_of_words fault) input shelf
 words_refused words fault input shelf e calm quiet =
     let given = some_given input shelf in
-    subst (λ (r : Result Command WordFault). EndsEarly (λ given answer. MatchResult r (λ k. CommandAnswers words k given answer) (λ refused. answer ≡ status_alone (status_of_words refused))) (status_of_words fault) input shelf) e
-    (refusal_ends (λ given answer. answer ≡ status_alone (status_of_words fault)) (status_of_words fault) input shelf given.0 given.1 (words_refusal fault) refl (λ b h. ap (λ (a : Answer). a.status) h) (λ _. calm) (λ _. quiet))
+    subst (λ (r : Result Command WordFault). EndsEarly (λ given answer. MatchResult r (λ k. CommandAnswers words k given answer) (λ refused. answer ≡ refused_with (status_of_words refused))) (status_of_words fault) input shelf) e
+    (refusal_ends (λ given answer. answer ≡ refused_with (status_of_words fault)) (status_of_words fault) input shelf given.0 given.1 (words_refusal fault) refl (λ b h. ap (λ (a : Answer). a.status) h) (λ _. calm) (λ _. quiet))

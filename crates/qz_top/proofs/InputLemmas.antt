@@ -18,8 +18,8 @@ use Rattle.qz_qread.specs.ProgramLimits.{IsProgramLimit}
 use Rattle.qz_qread.proofs.ValidReadings.{limits_are_of_programs}
 use Rattle.qz_top.specs.declared.status.Status.{Status}
 use Rattle.qz_top.specs.declared.status.Status.TheVariants as status
-use Rattle.qz_top.specs.Status.{IsRefusal, IsLimitOfRules, IsBeforeInput}
-use Rattle.qz_top.specs.Answer.{Answer, Given, Storage, IsTold, status_alone, done}
+use Rattle.qz_top.specs.Status.{IsRefusal, IsLimitBeforeInput, IsBeforeInput}
+use Rattle.qz_top.specs.Answer.{Answer, Given, Storage, IsTold, refused_with, done}
 use Rattle.qz_top.specs.Inputs.{most_input_bytes, status_of_fault, status_of_unread, program_answer, input_answer}
 use Rattle.qz_top.specs.Making.{IsToBeWritten, EndsEarly, IsAnswered, IsProgramRead, IsMadeOfInput, RefusesBytes, EndsByInput}
 use Rattle.qz_top.proofs.AnswerLemmas.{some_input, memory_ends, refusal_ends, read_fault_ends}
@@ -29,12 +29,12 @@ use Rattle.qz_top.proofs.AnswerLemmas.{some_input, memory_ends, refusal_ends, re
 -- an input within the limit is answered by its program
 short_answer : (text : ProgramParts → List ℕ) (bytes : List ℕ) → length bytes ≤ most_input_bytes → input_answer text bytes ≡ program_answer text (program_of bytes)
 unfolding input_answer
-short_answer text bytes few = ap (λ b. cond b (status_alone (status.Limit which_limit.InputBytes)) (program_answer text (program_of bytes))) (le-ltb most_input_bytes (length bytes) few)
+short_answer text bytes few = ap (λ b. cond b (refused_with (status.Limit which_limit.InputBytes)) (program_answer text (program_of bytes))) (le-ltb most_input_bytes (length bytes) few)
 
 -- a longer one is refused
-long_answer : (text : ProgramParts → List ℕ) (bytes : List ℕ) → most_input_bytes < length bytes → input_answer text bytes ≡ status_alone (status.Limit which_limit.InputBytes)
+long_answer : (text : ProgramParts → List ℕ) (bytes : List ℕ) → most_input_bytes < length bytes → input_answer text bytes ≡ refused_with (status.Limit which_limit.InputBytes)
 unfolding input_answer
-long_answer text bytes many = ap (λ b. cond b (status_alone (status.Limit which_limit.InputBytes)) (program_answer text (program_of bytes))) (lt-ltb most_input_bytes (length bytes) many)
+long_answer text bytes many = ap (λ b. cond b (refused_with (status.Limit which_limit.InputBytes)) (program_answer text (program_of bytes))) (lt-ltb most_input_bytes (length bytes) many)
 
 -- the status of a fault is a refusal, or memory ran out
 fault_cases : (e : QasmFault) → (IsRefusal (status_of_fault e) × (e ≢ fault.Memory)) ⊎ (status_of_fault e ≡ status.Memory)
@@ -44,13 +44,13 @@ fault_cases (fault.Lex lexical.Memory) = inr refl
 fault_cases (fault.Lex e) = inl (tt, λ h. cc)
 fault_cases e = inl (tt, λ h. cc)
 
--- a limit of programs is none of rules
-late_limit : (which : Which) → IsProgramLimit which → IsLimitOfRules which → ⊥
-late_limit which_limit.ProgramRegisters of_programs of_rules = of_rules
-late_limit which_limit.ProgramQubits of_programs of_rules = of_rules
-late_limit which_limit.ProgramBits of_programs of_rules = of_rules
-late_limit which_limit.ProgramGates of_programs of_rules = of_rules
-late_limit _ of_programs of_rules = of_programs
+-- a limit of programs is none that comes before the input
+late_limit : (which : Which) → IsProgramLimit which → IsLimitBeforeInput which → ⊥
+late_limit which_limit.ProgramRegisters of_programs before = before
+late_limit which_limit.ProgramQubits of_programs before = before
+late_limit which_limit.ProgramBits of_programs before = before
+late_limit which_limit.ProgramGates of_programs before = before
+late_limit _ of_programs before = of_programs
 
 -- the status of a program's fault is none that comes before the input
 late_fault : (bytes : List ℕ) (e : QasmFault) → program_of bytes ≡ Err e → ¬ IsBeforeInput (status_of_fault e)
@@ -139,7 +139,7 @@ module _ (Answers : Given → Answer → Type 0) (text : ProgramParts → List �
   -- a command with such answers ends early as the input says
   pub ends_by_input : (s : Status) → EndsByInput s input → EndsEarly Answers s input shelf
   ends_by_input s (inl w) =
-      refusal_ends Answers s input shelf (record { input = w.bytes; files = files }) (w.told, told) w.refuses.refusal (of_input.is w.bytes (status_alone s) (sym (w.refuses.answer text)))
+      refusal_ends Answers s input shelf (record { input = w.bytes; files = files }) (w.told, told) w.refuses.refusal (of_input.is w.bytes (refused_with s) (sym (w.refuses.answer text)))
       (λ b h. ap (λ (a : Answer). a.status) (of_input.only w.bytes b h ∙ w.refuses.answer text)) w.answered shelf_answered
   ends_by_input s (inr (inl w)) =
       let bytes = some_input input.old in

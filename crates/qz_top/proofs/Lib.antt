@@ -1,3 +1,6 @@
+pub mod PieceLemmas
+pub mod TellingLemmas
+pub mod AnswerTexts
 pub mod AnswerLemmas
 pub mod InputLemmas
 pub mod TidyLemmas
@@ -5,3 +8,5 @@ pub mod OptimisedLemmas
 pub mod OptimiseLemmas
 pub mod WordLemmas
 pub mod RunLemmas
+pub mod ClassFiles
+pub mod TrialLemmas

@@ -7,6 +7,7 @@ use Rattle.qz_circ.specs.declared.fault.RuleFault.TheVariants as fault
 use Rattle.qz_circ.specs.declared.fault.Which.TheVariants.{RuleBytes}
 use Rattle.qz_circ.specs.ProgramText.{program_text}
 use Rattle.qz_circ.specs.RuleFiles.{RuleClasses, Reads}
+use Rattle.qz_circ.specs.Search.{PlanNumbers}
 use Rattle.qz_io.specs.declared.fault.IoFault.{IoFault}
 use Rattle.qz_io.specs.declared.fault.IoFault.TheVariants as opening
 use Rattle.qz_io.specs.declared.transfers.Unread.{Unread}
@@ -18,7 +19,7 @@ use Rattle.qz_rulefile.proofs.Unique.{one_reading}
 use Rattle.qz_top.specs.declared.status.Status.{Status}
 use Rattle.qz_top.specs.declared.status.Status.TheVariants as status
 use Rattle.qz_top.specs.Status.{IsRefusal, IsBeforeInput}
-use Rattle.qz_top.specs.Answer.{Answer, Given, Storage, IsTold, status_alone}
+use Rattle.qz_top.specs.Answer.{Answer, Given, Storage, IsTold, refused_with}
 use Rattle.qz_top.specs.Making.{IsToBeWritten, EndsEarly, EndsUnread, IsOpened, IsFileRead, AreRulesRead, IsMadeOfInput, EndsByInput}
 use Rattle.qz_top.specs.Optimise.{most_rule_bytes, status_of_rule_fault, status_of_unread_file, status_of_opening, with_circuit, optimised_text, RulesAnswer, FileAnswer, NamedAnswer, Optimises}
 use Rattle.qz_top.specs.Optimised.{IsOptimised, IsOptimisedBy}
@@ -73,84 +74,10 @@ file_made name bytes opened input open_is joins same read short =
       answered = calm_in_all opened input open_is joins same (λ h. read.answered h (λ e. cc));
     }
 
--- the answers where the file with the name is this one
-answers_to : (name : List ℕ) (file : Option (List ℕ)) (given : Given) (answer : Answer) → given.files name ≡ file → NamedAnswer given file answer → Optimises name given answer
-answers_to name file given answer e = subst (λ f. NamedAnswer given f answer) (sym e)
-
--- and no others
-only_to : (name : List ℕ) (file : Option (List ℕ)) (given : Given) (answer : Answer) → given.files name ≡ file → Optimises name given answer → NamedAnswer given file answer
-only_to name file given answer e = subst (λ f. NamedAnswer given f answer) e
-
--- a command ends early by a refusal that is the only answer where the file with the name is this one
-named_refusal : (name : List ℕ) (s : Status) (files : Files) (file : Option (List ℕ)) (shelf : Storage) → IsTold shelf.files files → files name ≡ file → IsRefusal s →
-    ((given : Given) → NamedAnswer given file (status_alone s)) → ((given : Given) (b : Answer) → NamedAnswer given file b → b.status ≡ s) →
-    (IsTrue shelf.answers_faults → shelf.faults_after ≡ shelf.faults_before) → EndsUnread (Optimises name) s shelf
-named_refusal name s files file shelf told named refusal is only answered = λ input calm.
-    let bytes = some_input input.old in
-    let given : Given = record { input = bytes.0; files = files } in
-    refusal_ends (Optimises name) s input shelf given (bytes.1, told) refusal (answers_to name file given (status_alone s) named (is given))
-    (λ b h. only given b (only_to name file given b named h)) (λ _. calm) answered
-
--- it ends early for want of memory, whatever is given
-unread_memory : (name : List ℕ) (shelf : Storage) → (IsTrue shelf.answers_faults → shelf.faults_after ≡ shelf.faults_before) → EndsUnread (Optimises name) status.Memory shelf
-unread_memory name shelf answered = λ input calm.
-    let given = some_given input shelf in
-    memory_ends (Optimises name) input shelf given.0 given.1 (λ _. calm) answered
-
--- or by a fault of the shelf
-unread_fault : (name : List ℕ) (shelf : Storage) → Rose shelf.faults_before shelf.faults_after → EndsUnread (Optimises name) status.ShelfFault shelf
-unread_fault name shelf rose = λ input calm.
-    let given = some_given input shelf in
-    shelf_fault_ends (Optimises name) input shelf given.0 given.1 (λ _. calm) rose
-
 -- a count that rose after it had not fallen rose in all
 rose_later : (before mid after : ℕ) → before ≤ mid → Rose mid after → Rose before after
 rose_later before mid after kept (inl more) = inl (omega arith)
 rose_later before mid after kept (inr last) = inr last
-
--- a file that is longer than the limit is refused
-long_refused : (given : Given) (file : List ℕ) (b : Answer) → most_rule_bytes < length file → FileAnswer given file b → b.status ≡ status.Limit RuleBytes
-long_refused given file b long (inl w) = ap (λ (a : Answer). a.status) w.1
-long_refused given file b long (inr w) = absurd (omega (arith, long, w.0))
-
--- the status that is made of a file that was not read whole
-pub file_unread : {A : Type 0} (e : Unread) (name : List ℕ) (opened : Storage) (input : Input) → IsOpened name input.old opened → opened.faults_after ≡ input.faults_before → opened.answers_faults ≡ input.answers_faults →
-    IsReadWhole {A = A} most_rule_bytes (Err e) input → EndsUnread (Optimises name) (status_of_unread_file e) (read_after opened input)
-file_unread unread.TooLong name opened input open_is joins same read =
-    let taken = read.too_long refl in
-    let given = file_given opened.files name input.old input.new taken.0 open_is.found open_is.whole taken.1 in
-    let long : most_rule_bytes < length (taken.0 ++ given.2) = omega (arith, taken.2, length-append taken.0 given.2) in
-    named_refusal name (status.Limit RuleBytes) given.0 (Some (taken.0 ++ given.2)) _ given.1 given.3 tt (λ g. inl (long, refl)) (λ g b h. long_refused g (taken.0 ++ given.2) b long h)
-    (calm_in_all opened input open_is joins same (λ h. read.answered h (λ e. cc)))
-file_unread unread.Failed name opened input open_is joins same read =
-    unread_fault name _ (rose_later opened.faults_before opened.faults_after input.faults_after open_is.faults (subst (λ n. Rose n input.faults_after) (sym joins) (read.failed refl)))
-file_unread unread.Memory name opened input open_is joins same read = unread_memory name _ (calm_in_all opened input open_is joins same (λ h. read.answered h (λ e. cc)))
-
--- the status where there is no file
-pub file_missing : (name : List ℕ) (shelf : Storage) → TellsWhether shelf.files name false → (IsTrue shelf.answers_faults → shelf.faults_after ≡ shelf.faults_before) → EndsUnread (Optimises name) status.NoFile shelf
-file_missing name shelf missing answered =
-    let given = no_file shelf.files name missing in
-    named_refusal name status.NoFile given.0 None shelf given.1 given.2 tt (λ g. refl) (λ g b h. ap (λ (a : Answer). a.status) h) answered
-
--- the status where a file isn't opened
-pub file_unopened : (e : IoFault) (name : List ℕ) (shelf : Storage) → (e ≡ opening.Failed → Rose shelf.faults_before shelf.faults_after) →
-    (IsTrue shelf.answers_faults → (e ≡ opening.Failed → ⊥) → shelf.faults_after ≡ shelf.faults_before) → EndsUnread (Optimises name) (status_of_opening e) shelf
-file_unopened opening.Failed name shelf failed answered = unread_fault name shelf (failed refl)
-file_unopened opening.Memory name shelf failed answered = unread_memory name shelf (λ h. answered h (λ e. cc))
-
--- ---- what a rule file says
-
--- an answer to a file within the limit is one to what it says
-only_said : (given : Given) (file : List ℕ) (said : Result RuleClasses RuleFault) (b : Answer) → length file ≤ most_rule_bytes → Reads file said → FileAnswer given file b → RulesAnswer given said b
-only_said given file said b short reads (inl w) = absurd (omega (arith, short, w.0))
-only_said given file said b short reads (inr w) = subst (λ r. RulesAnswer given r b) (one_reading file w.1.0 said w.1.1 reads) w.1.2
-
--- what a file says decides how the command ends, where that is a refusal and all that the answers say
-said_ends : (name : List ℕ) (bytes : List ℕ) (shelf : Storage) (said : Result RuleClasses RuleFault) (s : Status) → IsFileRead name bytes shelf → Reads bytes said → IsRefusal s →
-    ((given : Given) → RulesAnswer given said (status_alone s)) → ((given : Given) (b : Answer) → RulesAnswer given said b → b.status ≡ s) → EndsUnread (Optimises name) s shelf
-said_ends name bytes shelf said s file reads refusal is only =
-    named_refusal name s file.files (Some bytes) shelf file.told file.named refusal (λ given. inr (file.short, (said, reads, is given)))
-    (λ given b h. only given b (only_said given bytes said b file.short reads h)) file.answered
 
 -- a fault of a rule file is a refusal, and not want of memory
 fault_refuses : (bytes : List ℕ) (e : RuleFault) → Reads bytes (Err e) → IsRefusal (status_of_rule_fault e)
@@ -163,49 +90,124 @@ fault_refuses bytes fault.Memory reads = absurd reads
 abbrev pub IsMadeOf : {R : Type 0} → List ℕ → (R → RuleClasses) → Result R Status → Type 0
 IsMadeOf bytes view made = MatchResult made (λ rules. Reads bytes (Ok (view rules))) (λ s. ((e : RuleFault) × Reads bytes (Err e) × (s ≡ status_of_rule_fault e)) ⊎ (s ≡ status.Memory))
 
--- the rules of a file, or the status that is made of its fault
-rules_of_bytes : {R : Type 0} (name bytes : List ℕ) (shelf : Storage) (view : R → RuleClasses) (made : Result R Status) → IsFileRead name bytes shelf → IsMadeOf bytes view made →
-    MatchResult made (λ rules. AreRulesRead name (view rules) shelf) (λ s. EndsUnread (Optimises name) s shelf)
-rules_of_bytes name bytes shelf view (Ok rules) file is = record { bytes = bytes; read = file; said = is }
-rules_of_bytes name bytes shelf view (Err s) file (inl w) =
-    subst (λ t. EndsUnread (Optimises name) t shelf) (sym w.2) (said_ends name bytes shelf (Err w.0) (status_of_rule_fault w.0) file w.1 (fault_refuses bytes w.0 w.1) (λ given. refl) (λ given b h. ap (λ (a : Answer). a.status) h))
-rules_of_bytes name bytes shelf view (Err s) file (inr m) = subst (λ t. EndsUnread (Optimises name) t shelf) (sym m) (unread_memory name shelf file.answered)
+module _ (plan : PlanNumbers) where
+  -- the answers where the file with the name is this one
+  answers_to : (name : List ℕ) (file : Option (List ℕ)) (given : Given) (answer : Answer) → given.files name ≡ file → NamedAnswer plan given file answer → Optimises name plan given answer
+  answers_to name file given answer e = subst (λ f. NamedAnswer plan given f answer) (sym e)
 
--- so it is with the bytes as they are handed on
-pub rules_made : {R : Type 0} (name bytes seen : List ℕ) (shelf : Storage) (view : R → RuleClasses) (made : Result R Status) → seen ≡ bytes → IsFileRead name bytes shelf → IsMadeOf seen view made →
-    MatchResult made (λ rules. AreRulesRead name (view rules) shelf) (λ s. EndsUnread (Optimises name) s shelf)
-rules_made name bytes seen shelf view made same file is = rules_of_bytes name bytes shelf view made file (subst (λ b. IsMadeOf b view made) same is)
+  -- and no others
+  only_to : (name : List ℕ) (file : Option (List ℕ)) (given : Given) (answer : Answer) → given.files name ≡ file → Optimises name plan given answer → NamedAnswer plan given file answer
+  only_to name file given answer e = subst (λ f. NamedAnswer plan given f answer) e
 
--- ---- the input
+  -- a command ends early by a refusal that is the only answer where the file with the name is this one
+  named_refusal : (name : List ℕ) (s : Status) (files : Files) (file : Option (List ℕ)) (shelf : Storage) → IsTold shelf.files files → files name ≡ file → IsRefusal s →
+      ((given : Given) → NamedAnswer plan given file (refused_with s)) → ((given : Given) (b : Answer) → NamedAnswer plan given file b → b.status ≡ s) →
+      (IsTrue shelf.answers_faults → shelf.faults_after ≡ shelf.faults_before) → EndsUnread (Optimises name plan) s shelf
+  named_refusal name s files file shelf told named refusal is only answered = λ input calm.
+      let bytes = some_input input.old in
+      let given : Given = record { input = bytes.0; files = files } in
+      refusal_ends (Optimises name plan) s input shelf given (bytes.1, told) refusal (answers_to name file given (refused_with s) named (is given))
+      (λ b h. only given b (only_to name file given b named h)) (λ _. calm) answered
 
--- the answers with these rules are those to the input
-of_rules : (name : List ℕ) (rules : RuleClasses) (shelf : Storage) (read : AreRulesRead name rules shelf) → AreOfInput (Optimises name) (optimised_text rules) read.read.files
-of_rules name rules shelf read = record {
-  is = λ bytes b h. answers_to name (Some read.bytes) (record { input = bytes; files = read.read.files }) b read.read.named (inr (read.read.short, (Ok rules, read.said, h)));
-  only = λ bytes b h.
-      only_said (record { input = bytes; files = read.read.files }) read.bytes (Ok rules) b read.read.short read.said (only_to name (Some read.bytes) (record { input = bytes; files = read.read.files }) b read.read.named h);
-}
+  -- it ends early for want of memory, whatever is given
+  unread_memory : (name : List ℕ) (shelf : Storage) → (IsTrue shelf.answers_faults → shelf.faults_after ≡ shelf.faults_before) → EndsUnread (Optimises name plan) status.Memory shelf
+  unread_memory name shelf answered = λ input calm.
+      let given = some_given input shelf in
+      memory_ends (Optimises name plan) input shelf given.0 given.1 (λ _. calm) answered
 
--- the input's program is optimised
-pub optimised_written : (name : List ℕ) (text : List ℕ) (input : Input) (shelf : Storage) → IsOptimisedBy name text input shelf → IsToBeWritten (Optimises name) text input shelf
-optimised_written name text input shelf by =
-    let rules_read = by.rules_read in
-    let p = by.optimised.program in
-    let made = by.optimised.made in
-    let is : text ≡ optimised_text by.rules p = made.text_is ∙ ap (λ c. program_text (with_circuit p c)) made.found.found in
-    written_by_input (Optimises name) (optimised_text by.rules) rules_read.read.files (of_rules name by.rules shelf rules_read) input shelf rules_read.read.told rules_read.read.answered p text by.optimised.read is
+  -- or by a fault of the shelf
+  unread_fault : (name : List ℕ) (shelf : Storage) → Rose shelf.faults_before shelf.faults_after → EndsUnread (Optimises name plan) status.ShelfFault shelf
+  unread_fault name shelf rose = λ input calm.
+      let given = some_given input shelf in
+      shelf_fault_ends (Optimises name plan) input shelf given.0 given.1 (λ _. calm) rose
 
--- or the command ends early
-pub optimised_ends : (name : List ℕ) (rules : RuleClasses) (s : Status) (input : Input) (shelf : Storage) → AreRulesRead name rules shelf → EndsByInput s input → EndsEarly (Optimises name) s input shelf
-optimised_ends name rules s input shelf read ends =
-    ends_by_input (Optimises name) (optimised_text rules) read.read.files (of_rules name rules shelf read) input shelf read.read.told read.read.answered s ends
+  -- a file that is longer than the limit is refused
+  long_refused : (given : Given) (file : List ℕ) (b : Answer) → most_rule_bytes < length file → FileAnswer plan given file b → b.status ≡ status.Limit RuleBytes
+  long_refused given file b long (inl w) = ap (λ (a : Answer). a.status) w.1
+  long_refused given file b long (inr w) = absurd (omega (arith, long, w.0))
 
--- what is made of the input, given the rules
-pub made_by_rules : {T : Type 0} (name : List ℕ) (rules : RuleClasses) (items : T → List ℕ) (made : Result T Status) (input : Input) (shelf : Storage) → AreRulesRead name rules shelf →
-    MatchResult made (λ text. IsMadeOfInput (λ p. IsOptimised rules p (items text)) input) (λ s. EndsByInput s input) →
-    MatchResult made (λ text. IsOptimisedBy name (items text) input shelf) (λ s. EndsEarly (Optimises name) s input shelf)
-made_by_rules name rules items (Ok text) input shelf read is = record { rules = rules; rules_read = read; optimised = is }
-made_by_rules name rules items (Err s) input shelf read is = optimised_ends name rules s input shelf read is
+  -- the status that is made of a file that was not read whole
+  pub file_unread : {A : Type 0} (e : Unread) (name : List ℕ) (opened : Storage) (input : Input) → IsOpened name input.old opened → opened.faults_after ≡ input.faults_before → opened.answers_faults ≡ input.answers_faults →
+      IsReadWhole {A = A} most_rule_bytes (Err e) input → EndsUnread (Optimises name plan) (status_of_unread_file e) (read_after opened input)
+  file_unread unread.TooLong name opened input open_is joins same read =
+      let taken = read.too_long refl in
+      let given = file_given opened.files name input.old input.new taken.0 open_is.found open_is.whole taken.1 in
+      let long : most_rule_bytes < length (taken.0 ++ given.2) = omega (arith, taken.2, length-append taken.0 given.2) in
+      named_refusal name (status.Limit RuleBytes) given.0 (Some (taken.0 ++ given.2)) _ given.1 given.3 tt (λ g. inl (long, refl)) (λ g b h. long_refused g (taken.0 ++ given.2) b long h)
+      (calm_in_all opened input open_is joins same (λ h. read.answered h (λ e. cc)))
+  file_unread unread.Failed name opened input open_is joins same read =
+      unread_fault name _ (rose_later opened.faults_before opened.faults_after input.faults_after open_is.faults (subst (λ n. Rose n input.faults_after) (sym joins) (read.failed refl)))
+  file_unread unread.Memory name opened input open_is joins same read = unread_memory name _ (calm_in_all opened input open_is joins same (λ h. read.answered h (λ e. cc)))
+
+  -- the status where there is no file
+  pub file_missing : (name : List ℕ) (shelf : Storage) → TellsWhether shelf.files name false → (IsTrue shelf.answers_faults → shelf.faults_after ≡ shelf.faults_before) → EndsUnread (Optimises name plan) status.NoFile shelf
+  file_missing name shelf missing answered =
+      let given = no_file shelf.files name missing in
+      named_refusal name status.NoFile given.0 None shelf given.1 given.2 tt (λ g. refl) (λ g b h. ap (λ (a : Answer). a.status) h) answered
+
+  -- the status where a file isn't opened
+  pub file_unopened : (e : IoFault) (name : List ℕ) (shelf : Storage) → (e ≡ opening.Failed → Rose shelf.faults_before shelf.faults_after) →
+      (IsTrue shelf.answers_faults → (e ≡ opening.Failed → ⊥) → shelf.faults_after ≡ shelf.faults_before) → EndsUnread (Optimises name plan) (status_of_opening e) shelf
+  file_unopened opening.Failed name shelf failed answered = unread_fault name shelf (failed refl)
+  file_unopened opening.Memory name shelf failed answered = unread_memory name shelf (λ h. answered h (λ e. cc))
+
+  -- ---- what a rule file says
+
+  -- an answer to a file within the limit is one to what it says
+  only_said : (given : Given) (file : List ℕ) (said : Result RuleClasses RuleFault) (b : Answer) → length file ≤ most_rule_bytes → Reads file said → FileAnswer plan given file b → RulesAnswer plan given said b
+  only_said given file said b short reads (inl w) = absurd (omega (arith, short, w.0))
+  only_said given file said b short reads (inr w) = subst (λ r. RulesAnswer plan given r b) (one_reading file w.1.0 said w.1.1 reads) w.1.2
+
+  -- what a file says decides how the command ends, where that is a refusal and all that the answers say
+  said_ends : (name : List ℕ) (bytes : List ℕ) (shelf : Storage) (said : Result RuleClasses RuleFault) (s : Status) → IsFileRead name bytes shelf → Reads bytes said → IsRefusal s →
+      ((given : Given) → RulesAnswer plan given said (refused_with s)) → ((given : Given) (b : Answer) → RulesAnswer plan given said b → b.status ≡ s) → EndsUnread (Optimises name plan) s shelf
+  said_ends name bytes shelf said s file reads refusal is only =
+      named_refusal name s file.files (Some bytes) shelf file.told file.named refusal (λ given. inr (file.short, (said, reads, is given)))
+      (λ given b h. only given b (only_said given bytes said b file.short reads h)) file.answered
+
+  -- the rules of a file, or the status that is made of its fault
+  rules_of_bytes : {R : Type 0} (name bytes : List ℕ) (shelf : Storage) (view : R → RuleClasses) (made : Result R Status) → IsFileRead name bytes shelf → IsMadeOf bytes view made →
+      MatchResult made (λ rules. AreRulesRead name (view rules) shelf) (λ s. EndsUnread (Optimises name plan) s shelf)
+  rules_of_bytes name bytes shelf view (Ok rules) file is = record { bytes = bytes; read = file; said = is }
+  rules_of_bytes name bytes shelf view (Err s) file (inl w) =
+      subst (λ t. EndsUnread (Optimises name plan) t shelf) (sym w.2) (said_ends name bytes shelf (Err w.0) (status_of_rule_fault w.0) file w.1 (fault_refuses bytes w.0 w.1) (λ given. refl) (λ given b h. ap (λ (a : Answer). a.status) h))
+  rules_of_bytes name bytes shelf view (Err s) file (inr m) = subst (λ t. EndsUnread (Optimises name plan) t shelf) (sym m) (unread_memory name shelf file.answered)
+
+  -- so it is with the bytes as they are handed on
+  pub rules_made : {R : Type 0} (name bytes seen : List ℕ) (shelf : Storage) (view : R → RuleClasses) (made : Result R Status) → seen ≡ bytes → IsFileRead name bytes shelf → IsMadeOf seen view made →
+      MatchResult made (λ rules. AreRulesRead name (view rules) shelf) (λ s. EndsUnread (Optimises name plan) s shelf)
+  rules_made name bytes seen shelf view made same file is = rules_of_bytes name bytes shelf view made file (subst (λ b. IsMadeOf b view made) same is)
+
+  -- ---- the input
+
+  -- the answers with these rules are those to the input
+  of_rules : (name : List ℕ) (rules : RuleClasses) (shelf : Storage) (read : AreRulesRead name rules shelf) → AreOfInput (Optimises name plan) (optimised_text rules plan) read.read.files
+  of_rules name rules shelf read = record {
+    is = λ bytes b h. answers_to name (Some read.bytes) (record { input = bytes; files = read.read.files }) b read.read.named (inr (read.read.short, (Ok rules, read.said, h)));
+    only = λ bytes b h.
+        only_said (record { input = bytes; files = read.read.files }) read.bytes (Ok rules) b read.read.short read.said (only_to name (Some read.bytes) (record { input = bytes; files = read.read.files }) b read.read.named h);
+  }
+
+  -- the input's program is optimised
+  pub optimised_written : (name : List ℕ) (text : List ℕ) (input : Input) (shelf : Storage) → IsOptimisedBy name plan text input shelf → IsToBeWritten (Optimises name plan) text input shelf
+  optimised_written name text input shelf by =
+      let rules_read = by.rules_read in
+      let p = by.optimised.program in
+      let made = by.optimised.made in
+      let is : text ≡ optimised_text by.rules plan p = made.text_is ∙ ap (λ c. program_text (with_circuit p c)) made.found.found in
+      written_by_input (Optimises name plan) (optimised_text by.rules plan) rules_read.read.files (of_rules name by.rules shelf rules_read) input shelf rules_read.read.told rules_read.read.answered p text by.optimised.read is
+
+  -- or the command ends early
+  pub optimised_ends : (name : List ℕ) (rules : RuleClasses) (s : Status) (input : Input) (shelf : Storage) → AreRulesRead name rules shelf → EndsByInput s input → EndsEarly (Optimises name plan) s input shelf
+  optimised_ends name rules s input shelf read ends =
+      ends_by_input (Optimises name plan) (optimised_text rules plan) read.read.files (of_rules name rules shelf read) input shelf read.read.told read.read.answered s ends
+
+  -- what is made of the input, given the rules
+  pub made_by_rules : {T : Type 0} (name : List ℕ) (rules : RuleClasses) (items : T → List ℕ) (made : Result T Status) (input : Input) (shelf : Storage) → AreRulesRead name rules shelf →
+      MatchResult made (λ text. IsMadeOfInput (λ p. IsOptimised rules plan p (items text)) input) (λ s. EndsByInput s input) →
+      MatchResult made (λ text. IsOptimisedBy name plan (items text) input shelf) (λ s. EndsEarly (Optimises name plan) s input shelf)
+  made_by_rules name rules items (Ok text) input shelf read is = record { rules = rules; rules_read = read; optimised = is }
+  made_by_rules name rules items (Err s) input shelf read is = optimised_ends name rules s input shelf read is
 
 -- a status that the input decides is none that comes before it, so nothing is to be said of the input there
 pub late_by_rules : {T : Type 0} (P : T → Type 0) (Q : Type 0) (made : Result T Status) (input : Input) → MatchResult made P (λ s. EndsByInput s input) → IfErr made (λ s. IsBeforeInput s → Q)

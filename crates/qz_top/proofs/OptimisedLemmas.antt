@@ -16,7 +16,7 @@ use Rattle.qz_circ.specs.ValidPrograms.{Valid}
 use Rattle.qz_qread.proofs.RoundTrip.{what_is_written_is_read}
 use Rattle.qz_top.specs.declared.status.Status.{Status}
 use Rattle.qz_top.specs.declared.status.Status.TheVariants as status
-use Rattle.qz_top.specs.Optimise.{default_plan, with_circuit}
+use Rattle.qz_top.specs.Optimise.{with_circuit}
 use Rattle.qz_top.specs.Optimised.{IsFound, IsOptimised}
 
 -- a gate on some of 64 qubits is one on 64
@@ -51,8 +51,8 @@ still_valid p circuit valid each few = record {
 }
 
 -- so the search from a valid program's gates finds what stands in their place
-found_by_default : {T F : Type 0} (items : T → ProgramCircuit) (rules : RuleClasses) (p : ProgramParts) (made : Result T F) → Valid p → IsSearched items rules made p.gates default_plan → IfOk made (λ d. IsFound rules p (items d))
-found_by_default items rules p (Ok d) valid is =
+found_by : {T F : Type 0} (items : T → ProgramCircuit) (rules : RuleClasses) (plan : PlanNumbers) (p : ProgramParts) (made : Result T F) → Valid p → IsSearched items rules made p.gates plan → IfOk made (λ d. IsFound rules plan p (items d))
+found_by items rules plan p (Ok d) valid is =
     let q = total_size p.qregs in
     record {
       found = is.best;
@@ -60,28 +60,26 @@ found_by_default items rules p (Ok d) valid is =
       no_dearer = is.cheap;
       valid = still_valid p (items d) valid (is.lawful q valid.gates.few valid.gates.gates) is.cheap;
     }
-found_by_default items rules p (Err e) valid is = tt
+found_by items rules plan p (Err e) valid is = tt
 
-pub circuit_found : {T F : Type 0} (items : T → ProgramCircuit) (rules : RuleClasses) (p : ProgramParts) (gates : ProgramCircuit) (plan : PlanNumbers) (made : Result T F) → Valid p → gates ≡ p.gates → plan ≡ default_plan →
-    IsSearched items rules made gates plan → IfOk made (λ d. IsFound rules p (items d))
-circuit_found items rules p gates plan made valid same default is =
-    found_by_default items rules p made valid
-    (subst (λ gs. IsSearched items rules made gs default_plan) same (subst (λ (n : PlanNumbers). IsSearched items rules made gates n) default is))
+pub circuit_found : {T F : Type 0} (items : T → ProgramCircuit) (rules : RuleClasses) (plan : PlanNumbers) (p : ProgramParts) (gates : ProgramCircuit) (made : Result T F) → Valid p → gates ≡ p.gates → IsSearched items rules made gates plan →
+    IfOk made (λ d. IsFound rules plan p (items d))
+circuit_found items rules plan p gates made valid same is = found_by items rules plan p made valid (subst (λ gs. IsSearched items rules made gs plan) same is)
 
 -- the text of the program with such a circuit
 abbrev written_as : {T : Type 0} (items : T → List ℕ) → Result T Status → ProgramParts → Type 0
 written_as items made shown = MatchResult made (λ text. items text ≡ program_text shown) (λ s. s ≡ status.Memory)
 
-optimised_as : {T : Type 0} (items : T → List ℕ) (rules : RuleClasses) (p : ProgramParts) (circuit : ProgramCircuit) (made : Result T Status) → IsFound rules p circuit →
-    written_as items made (with_circuit p circuit) → MatchResult made (λ text. IsOptimised rules p (items text)) (λ s. s ≡ status.Memory)
-optimised_as items rules p circuit (Ok text) found is = record {
+optimised_as : {T : Type 0} (items : T → List ℕ) (rules : RuleClasses) (plan : PlanNumbers) (p : ProgramParts) (circuit : ProgramCircuit) (made : Result T Status) → IsFound rules plan p circuit →
+    written_as items made (with_circuit p circuit) → MatchResult made (λ text. IsOptimised rules plan p (items text)) (λ s. s ≡ status.Memory)
+optimised_as items rules plan p circuit (Ok text) found is = record {
   circuit = circuit;
   found = found;
   text_is = is;
   read_back = ap program_of is ∙ what_is_written_is_read (with_circuit p circuit) found.valid;
 }
-optimised_as items rules p circuit (Err s) found is = is
+optimised_as items rules plan p circuit (Err s) found is = is
 
-pub text_made : {T : Type 0} (items : T → List ℕ) (rules : RuleClasses) (p : ProgramParts) (circuit : ProgramCircuit) (shown : ProgramParts) (made : Result T Status) → IsFound rules p circuit → shown ≡ with_circuit p circuit →
-    MatchResult made (λ text. items text ≡ program_text shown) (λ s. s ≡ status.Memory) → MatchResult made (λ text. IsOptimised rules p (items text)) (λ s. s ≡ status.Memory)
-text_made items rules p circuit shown made found same is = optimised_as items rules p circuit made found (subst (written_as items made) same is)
+pub text_made : {T : Type 0} (items : T → List ℕ) (rules : RuleClasses) (plan : PlanNumbers) (p : ProgramParts) (circuit : ProgramCircuit) (shown : ProgramParts) (made : Result T Status) → IsFound rules plan p circuit → shown ≡ with_circuit p circuit →
+    MatchResult made (λ text. items text ≡ program_text shown) (λ s. s ≡ status.Memory) → MatchResult made (λ text. IsOptimised rules plan p (items text)) (λ s. s ≡ status.Memory)
+text_made items rules plan p circuit shown made found same is = optimised_as items rules plan p circuit made found (subst (written_as items made) same is)

@@ -1,16 +1,25 @@
 -- What the words of a command, and one of them that names a file, stand for.
-use Rattle.std.proofs.Common.{◌≡◌, ℕ, List, [], Result, Ok, subst, sym, ◌∙◌, ap, inl, inr}
+use Rattle.std.proofs.Common.{◌≡◌, ℕ, true, List, [], Result, Ok, refl, subst, sym, ◌∙◌, ap, inl, inr}
 use Rattle.std.specs.Prelude.{◌⊎◌, slice_index_or, MatchResult}
+use Rattle.qz_circ.specs.Circuit.{Limits}
+use Rattle.qz_circ.specs.Search.{PlanNumbers}
+use Rattle.qz_io.specs.Transfers.{Input}
 use Rattle.qz_top.specs.declared.status.Status.{Status}
+use Rattle.qz_top.specs.declared.status.Status.TheVariants as status
 use Rattle.qz_top.specs.declared.words.Command.{Command}
 use Rattle.qz_top.specs.declared.words.Command.TheVariants.{Optimise}
 use Rattle.qz_top.specs.declared.words.WordFault.{WordFault}
-use Rattle.qz_top.specs.Answer.{Storage, Outside, IsCarriedOut}
-use Rattle.qz_top.specs.Making.{HasRules}
+use Rattle.qz_top.specs.Answer.{Answer, Storage, Outside, IsCalm, IsCarriedOut}
+use Rattle.qz_top.specs.Making.{EndsEarly, HasRules}
 use Rattle.qz_top.specs.Optimise.{Optimises}
 use Rattle.qz_top.specs.Optimised.{WritesOptimised}
-use Rattle.qz_top.specs.Run.{CommandAnswers, CommandNeedsProgram, NeedsProgram}
+use Rattle.qz_top.specs.Run.{GenerationAnswers, CommandAnswers, CommandNeedsProgram, NeedsProgram}
 use Rattle.qz_top.specs.Words.{command_of}
+use Rattle.qz_top.proofs.AnswerLemmas.{some_given, refusal_ends}
+
+-- words ask for one command
+pub same_command : (words : List (List ℕ)) (command other : Command) → Ok command ≡ command_of words → command_of words ≡ Ok other → command ≡ other
+same_command words command other is same = cc
 
 -- what words need is what their command needs
 pub words_need : (words : List (List ℕ)) (command : Command) (shelf : Storage) → Ok command ≡ command_of words → CommandNeedsProgram words command shelf → NeedsProgram words shelf
@@ -25,21 +34,25 @@ words_need_or words command shelf e (inr needs) = inr (words_need words command 
 abbrev word_at : List (List ℕ) → ℕ → List ℕ
 word_at words k = slice_index_or words k []
 
--- the number of an optimisation's word is known from it
-same_number : (k j : ℕ) → Optimise k ≡ Optimise j → k ≡ j
-same_number k j e = cc
+-- the parts of an optimisation are known from it
+same_number : (k j : ℕ) (plan other : PlanNumbers) (workers more : ℕ) → Optimise k plan workers ≡ Optimise j other more → k ≡ j
+same_number k j plan other workers more e = cc
 
-module _ (words : List (List ℕ)) (command : Command) (k : ℕ) (name : List ℕ) (is : command ≡ Optimise k) (named : name ≡ word_at words k) where
+same_plan : (k j : ℕ) (plan other : PlanNumbers) (workers more : ℕ) → Optimise k plan workers ≡ Optimise j other more → plan ≡ other
+same_plan k j plan other workers more e = cc
+
+module _ (words : List (List ℕ)) (command : Command) (k : ℕ) (plan : PlanNumbers) (workers : ℕ) (name : List ℕ) (is : command ≡ Optimise k plan workers) (named : name ≡ word_at words k) where
   -- an optimisation by the file with this name is carried out as that by the file that the word names
-  pub carried_by_name : (s : Status) (outside : Outside) → IsCarriedOut (Optimises name) s outside → IsCarriedOut (CommandAnswers words command) s outside
+  pub carried_by_name : (s : Status) (outside : Outside) → IsCarriedOut (Optimises name plan) s outside → IsCarriedOut (CommandAnswers words command) s outside
   carried_by_name s outside carried =
-      subst (λ (c : Command). IsCarriedOut (CommandAnswers words c) s outside) (sym is) (subst (λ (n : List ℕ). IsCarriedOut (Optimises n) s outside) named carried)
+      subst (λ (c : Command). IsCarriedOut (CommandAnswers words c) s outside) (sym is) (subst (λ (n : List ℕ). IsCarriedOut (Optimises n plan) s outside) named carried)
 
   -- what it writes
-  pub optimised_by_name : (j : ℕ) (outside : Outside) → command ≡ Optimise j → WritesOptimised name outside → WritesOptimised (word_at words j) outside
-  optimised_by_name j outside same writes =
-      let number : k ≡ j = same_number k j (sym is ∙ same) in
-      subst (λ (n : List ℕ). WritesOptimised n outside) (named ∙ ap (word_at words) number) writes
+  pub optimised_by_name : (j : ℕ) (other : PlanNumbers) (more : ℕ) (outside : Outside) → command ≡ Optimise j other more → WritesOptimised name plan outside → WritesOptimised (word_at words j) other outside
+  optimised_by_name j other more outside same writes =
+      let number : k ≡ j = same_number k j plan other workers more (sym is ∙ same) in
+      let plans : plan ≡ other = same_plan k j plan other workers more (sym is ∙ same) in
+      subst (λ (n : List ℕ). WritesOptimised n other outside) (named ∙ ap (word_at words) number) (subst (λ (p : PlanNumbers). WritesOptimised name p outside) plans writes)
 
   -- and what it needs
   pub needs_by_name : (shelf : Storage) → HasRules name shelf → CommandNeedsProgram words command shelf
@@ -48,3 +61,9 @@ module _ (words : List (List ℕ)) (command : Command) (k : ℕ) (name : List �
   pub needs_by_name_or : (Q : Type 0) (shelf : Storage) → Q ⊎ HasRules name shelf → Q ⊎ CommandNeedsProgram words command shelf
   needs_by_name_or Q shelf (inl q) = inl q
   needs_by_name_or Q shelf (inr rules) = inr (needs_by_name shelf rules)
+
+-- a generation with a report ends early, since reports aren't built
+pub unbuilt_carried : (b : Limits) (input : Input) (shelf : Storage) → input.faults_after ≡ input.faults_before → IsCalm shelf → EndsEarly (λ given. GenerationAnswers b true) status.Unbuilt input shelf
+unbuilt_carried b input shelf calm quiet =
+    let given = some_given input shelf in
+    refusal_ends (λ given. GenerationAnswers b true) status.Unbuilt input shelf given.0 given.1 tt refl (λ answer h. ap (λ (a : Answer). a.status) h) (λ _. calm) (λ _. quiet)

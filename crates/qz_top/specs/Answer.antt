@@ -8,6 +8,7 @@ use Rattle.qz_io.specs.Told.{HasPart}
 use Rattle.qz_io.specs.Transfers.{Input}
 use Rattle.qz_top.specs.declared.status.Status.{Status}
 use Rattle.qz_top.specs.declared.status.Status.TheVariants.{Ok, Memory, ReadFault, WriteFault, ShelfFault}
+use Rattle.qz_top.specs.FaultTexts.{status_text}
 use Rattle.qz_top.specs.Status.{IsRefusal}
 
 -- ---- answers
@@ -18,9 +19,9 @@ pub record Answer : Type 0 where
   pub out : List ℕ
   pub err : List ℕ
 
--- a status alone, with nothing to write
-abbrev pub status_alone : Status → Answer
-status_alone status = record { status = status; out = []; err = [] }
+-- refused with this status: nothing for the output, and the status's text for the error stream
+abbrev pub refused_with : Status → Answer
+refused_with status = record { status = status; out = []; err = status_text status }
 
 -- done, with this text for the output
 abbrev pub done : List ℕ → Answer
@@ -97,7 +98,7 @@ pub record IsCarriedOut (Answers : Given → Answer → Type 0) (status : Status
   pub given : Given
   pub told : AreTold outside.input outside.shelf given
   -- it is refused only where that is the answer
-  pub refused : IsRefusal status → Answers given (status_alone status)
+  pub refused : IsRefusal status → Answers given (refused_with status)
   -- the whole text is written, or a prefix of it; where memory runs out, perhaps nothing
   pub ok : status ≡ Ok → Writes (Answers given) outside.out
   pub write_fault : status ≡ WriteFault → WritesPart (Answers given) outside.out

@@ -10,7 +10,7 @@ use Rattle.qz_io.specs.declared.transfers.Unread.{Unread}
 use Rattle.qz_io.specs.declared.transfers.Unread.TheVariants as unread
 use Rattle.qz_top.specs.declared.status.Status.{Status}
 use Rattle.qz_top.specs.declared.status.Status.TheVariants as status
-use Rattle.qz_top.specs.Answer.{Answer, status_alone, done}
+use Rattle.qz_top.specs.Answer.{Answer, refused_with, done}
 
 -- how many bytes the text of a program has at most where it is an input
 abbrev pub most_input_bytes : ℕ
@@ -32,8 +32,8 @@ status_of_unread unread.Memory = status.Memory
 -- the answer to a program: the text that becomes of it; or that to the first fault of a text
 abbrev pub program_answer : (ProgramParts → List ℕ) → Result ProgramParts QasmFault → Answer
 program_answer text (Ok p) = done (text p)
-program_answer text (Err e) = status_alone (status_of_fault e)
+program_answer text (Err e) = refused_with (status_of_fault e)
 
 -- the answer to an input: the text that becomes of the program that it is; or its first fault, or that it is too long
 unfoldable pub input_answer : (ProgramParts → List ℕ) → List ℕ → Answer
-input_answer text input = if nat_lt most_input_bytes (length input) then status_alone (status.Limit InputBytes) else program_answer text (program_of input)
+input_answer text input = if nat_lt most_input_bytes (length input) then refused_with (status.Limit InputBytes) else program_answer text (program_of input)

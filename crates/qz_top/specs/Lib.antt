@@ -1,10 +1,14 @@
 pub mod Words
 pub mod Status
+pub mod FaultTexts
+pub mod Pieces
 pub mod Answer
 pub mod Making
 pub mod Generate
 pub mod Inputs
 pub mod Tidy
 pub mod Optimise
+pub mod RandomWords
+pub mod Trial
 pub mod Run
 pub mod Optimised

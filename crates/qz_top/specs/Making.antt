@@ -8,7 +8,7 @@ use Rattle.qz_io.specs.Files.{Files, TellsWhether, IsWholeFile}
 use Rattle.qz_io.specs.Transfers.{Input}
 use Rattle.qz_top.specs.declared.status.Status.{Status}
 use Rattle.qz_top.specs.declared.status.Status.TheVariants.{Ok as Done, Memory, ReadFault}
-use Rattle.qz_top.specs.Answer.{Answer, status_alone, done, Output, Storage, Given, IsTold, AreTold, IsCarriedOut}
+use Rattle.qz_top.specs.Answer.{Answer, refused_with, done, Output, Storage, Given, IsTold, AreTold, IsCarriedOut}
 use Rattle.qz_top.specs.Inputs.{most_input_bytes, input_answer}
 use Rattle.qz_top.specs.Optimise.{most_rule_bytes}
 use Rattle.qz_top.specs.Status.{IsRefusal, IsBeforeInput}
@@ -84,7 +84,7 @@ pub record IsMadeOfInput (P : ProgramParts → Type 0) (input : Input) : Type 0 
 pub record RefusesBytes (s : Status) (bytes : List ℕ) : Type 0 where
   pub refusal : IsRefusal s
   pub late : ¬ IsBeforeInput s
-  pub answer : (text : ProgramParts → List ℕ) → input_answer text bytes ≡ status_alone s
+  pub answer : (text : ProgramParts → List ℕ) → input_answer text bytes ≡ refused_with s
 
 -- the input has such bytes, and no fault of it is passed over
 pub record IsInputRefused (s : Status) (input : Input) : Type 0 where

@@ -16,7 +16,7 @@ use Rattle.qz_io.specs.declared.transfers.Unread.{Unread}
 use Rattle.qz_io.specs.declared.transfers.Unread.TheVariants as unread
 use Rattle.qz_top.specs.declared.status.Status.{Status}
 use Rattle.qz_top.specs.declared.status.Status.TheVariants as status
-use Rattle.qz_top.specs.Answer.{Answer, Given, status_alone}
+use Rattle.qz_top.specs.Answer.{Answer, Given, refused_with}
 use Rattle.qz_top.specs.Inputs.{input_answer}
 use Rattle.qz_top.specs.Words.{which_of}
 
@@ -42,38 +42,34 @@ abbrev pub status_of_opening : IoFault → Status
 status_of_opening opening.Failed = status.ShelfFault
 status_of_opening opening.Memory = status.Memory
 
--- the plan of a search where the words give none: 16 rounds that take 8 circuits each, a queue of 100, and no slack
-abbrev pub default_plan : PlanNumbers
-default_plan = record { rounds = 16; batch = 8; cap = 100; slack = 0 }
-
--- the circuit that the search with these classes and the default plan finds
-abbrev pub found_circuit : List (List Circuit) → ProgramCircuit → ProgramCircuit
-found_circuit classes c = best_found (children classes) default_plan c
+-- the circuit that the search with these classes and this plan finds
+abbrev pub found_circuit : List (List Circuit) → PlanNumbers → ProgramCircuit → ProgramCircuit
+found_circuit classes plan c = best_found (children classes) plan c
 
 -- the program with this circuit in place of its gates
 abbrev pub with_circuit : ProgramParts → ProgramCircuit → ProgramParts
 with_circuit p c = record p { gates = c }
 
--- the text of a program that is optimised by these rules
-abbrev pub optimised_text : RuleClasses → ProgramParts → List ℕ
-optimised_text rules p = program_text (with_circuit p (found_circuit rules.classes p.gates))
+-- the text of a program that is optimised by these rules and with this plan
+abbrev pub optimised_text : RuleClasses → PlanNumbers → ProgramParts → List ℕ
+optimised_text rules plan p = program_text (with_circuit p (found_circuit rules.classes plan p.gates))
 
 -- the answers to what a rule file says: its fault; or with rules, the answer to the input
-abbrev pub RulesAnswer : Given → Result RuleClasses RuleFault → Answer → Type 0
-RulesAnswer given (Ok rules) answer = answer ≡ input_answer (optimised_text rules) given.input
-RulesAnswer given (Err e) answer = answer ≡ status_alone (status_of_rule_fault e)
+abbrev pub RulesAnswer : PlanNumbers → Given → Result RuleClasses RuleFault → Answer → Type 0
+RulesAnswer plan given (Ok rules) answer = answer ≡ input_answer (optimised_text rules plan) given.input
+RulesAnswer plan given (Err e) answer = answer ≡ refused_with (status_of_rule_fault e)
 
 -- the answers to a rule file: that it is too long, or those to what it says
-abbrev pub FileAnswer : Given → List ℕ → Answer → Type 0
-FileAnswer given file answer =
-    ((most_rule_bytes < length file) × (answer ≡ status_alone (status.Limit RuleBytes))) ⊎
-    ((length file ≤ most_rule_bytes) × ((said : Result RuleClasses RuleFault) × Reads file said × RulesAnswer given said answer))
+abbrev pub FileAnswer : PlanNumbers → Given → List ℕ → Answer → Type 0
+FileAnswer plan given file answer =
+    ((most_rule_bytes < length file) × (answer ≡ refused_with (status.Limit RuleBytes))) ⊎
+    ((length file ≤ most_rule_bytes) × ((said : Result RuleClasses RuleFault) × Reads file said × RulesAnswer plan given said answer))
 
 -- the answers to the file with a name: that there is none, or those to its bytes
-abbrev pub NamedAnswer : Given → Option (List ℕ) → Answer → Type 0
-NamedAnswer given None answer = answer ≡ status_alone status.NoFile
-NamedAnswer given (Some file) answer = FileAnswer given file answer
+abbrev pub NamedAnswer : PlanNumbers → Given → Option (List ℕ) → Answer → Type 0
+NamedAnswer plan given None answer = answer ≡ refused_with status.NoFile
+NamedAnswer plan given (Some file) answer = FileAnswer plan given file answer
 
--- the answers to what is given, with the rule file of this name
-abbrev pub Optimises : List ℕ → Given → Answer → Type 0
-Optimises name given answer = NamedAnswer given (given.files name) answer
+-- the answers to what is given, with the rule file of this name and this plan
+abbrev pub Optimises : List ℕ → PlanNumbers → Given → Answer → Type 0
+Optimises name plan given answer = NamedAnswer plan given (given.files name) answer

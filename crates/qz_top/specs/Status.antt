@@ -1,9 +1,9 @@
 -- The numbers of statuses.
 use Rattle.std.specs.Prelude.{ℕ}
 use Rattle.qz_circ.specs.declared.fault.Which.{Which}
-use Rattle.qz_circ.specs.declared.fault.Which.TheVariants.{BoundsQubits, BoundsGates, BoundsParams, BoundsCircuits, RuleBytes}
+use Rattle.qz_circ.specs.declared.fault.Which.TheVariants.{BoundsQubits, BoundsGates, BoundsParams, BoundsCircuits, Workers, PlanBatch, PlanCap, PlanRounds, PlanSlack, RuleBytes, TrialQubits, TrialGates}
 use Rattle.qz_top.specs.declared.status.Status.{Status}
-use Rattle.qz_top.specs.declared.status.Status.TheVariants.{Ok, Memory, Usage, Limit, Qasm, RuleSyntax, Unsound, NoFile, ReadFault, WriteFault, ShelfFault}
+use Rattle.qz_top.specs.declared.status.Status.TheVariants.{Ok, Memory, Usage, Limit, Qasm, RuleSyntax, Unsound, NoFile, ReadFault, WriteFault, ShelfFault, Unbuilt}
 
 -- the number that the program ends with
 abbrev pub status_number : Status → ℕ
@@ -18,8 +18,9 @@ status_number NoFile = 7
 status_number ReadFault = 8
 status_number WriteFault = 9
 status_number ShelfFault = 10
+status_number Unbuilt = 11
 
--- a status that refuses the words, the rule file or the input
+-- a status that refuses the words, the rule file or the input, or tells that what is asked for isn't built
 abbrev pub IsRefusal : Status → Type 0
 IsRefusal Ok = ⊥
 IsRefusal Memory = ⊥
@@ -32,6 +33,7 @@ IsRefusal NoFile = Unit {0}
 IsRefusal ReadFault = ⊥
 IsRefusal WriteFault = ⊥
 IsRefusal ShelfFault = ⊥
+IsRefusal Unbuilt = Unit {0}
 
 -- a status at which nothing is written: a refusal, or the input or the shelf failed
 abbrev pub WritesNothing : Status → Type 0
@@ -46,22 +48,30 @@ WritesNothing NoFile = Unit {0}
 WritesNothing ReadFault = Unit {0}
 WritesNothing WriteFault = ⊥
 WritesNothing ShelfFault = Unit {0}
+WritesNothing Unbuilt = Unit {0}
 
--- a limit of bounds or of the size of a rule file
-abbrev pub IsLimitOfRules : Which → Type 0
-IsLimitOfRules BoundsQubits = Unit {0}
-IsLimitOfRules BoundsGates = Unit {0}
-IsLimitOfRules BoundsParams = Unit {0}
-IsLimitOfRules BoundsCircuits = Unit {0}
-IsLimitOfRules RuleBytes = Unit {0}
-IsLimitOfRules _ = ⊥
+-- a limit of words, of the bounds of a rule file or of its size
+abbrev pub IsLimitBeforeInput : Which → Type 0
+IsLimitBeforeInput BoundsQubits = Unit {0}
+IsLimitBeforeInput BoundsGates = Unit {0}
+IsLimitBeforeInput BoundsParams = Unit {0}
+IsLimitBeforeInput BoundsCircuits = Unit {0}
+IsLimitBeforeInput Workers = Unit {0}
+IsLimitBeforeInput PlanBatch = Unit {0}
+IsLimitBeforeInput PlanCap = Unit {0}
+IsLimitBeforeInput PlanRounds = Unit {0}
+IsLimitBeforeInput PlanSlack = Unit {0}
+IsLimitBeforeInput RuleBytes = Unit {0}
+IsLimitBeforeInput TrialQubits = Unit {0}
+IsLimitBeforeInput TrialGates = Unit {0}
+IsLimitBeforeInput _ = ⊥
 
 -- a status that the words, the shelf or the rules decide, before any input is needed
 abbrev pub IsBeforeInput : Status → Type 0
 IsBeforeInput Ok = ⊥
 IsBeforeInput Memory = ⊥
 IsBeforeInput Usage = Unit {0}
-IsBeforeInput (Limit which) = IsLimitOfRules which
+IsBeforeInput (Limit which) = IsLimitBeforeInput which
 IsBeforeInput (Qasm fault) = ⊥
 IsBeforeInput (RuleSyntax place) = Unit {0}
 IsBeforeInput (Unsound class member) = Unit {0}
@@ -69,3 +79,4 @@ IsBeforeInput NoFile = Unit {0}
 IsBeforeInput ReadFault = ⊥
 IsBeforeInput WriteFault = ⊥
 IsBeforeInput ShelfFault = Unit {0}
+IsBeforeInput Unbuilt = Unit {0}

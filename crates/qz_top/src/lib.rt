@@ -4,12 +4,17 @@
 pub mod generate;
 mod inputs;
 mod optimise;
+mod pieces;
+mod random_words;
 pub mod run;
 pub mod status;
+pub mod telling;
 pub mod tidy;
+pub mod trial;
 pub mod words;
 mod writing;
 
 pub use run::run_solo;
 pub use status::Status;
+pub use telling::tell;
 pub use words::{Command, WordFault, read_words};

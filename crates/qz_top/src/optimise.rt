@@ -2,6 +2,7 @@
 ghost use Rattle.std.specs.Prelude.{◌≡◌, ℕ, ◌+◌, ◌≤◌, ◌⊎◌, List, IsTrue, Ok, Err, IfOk, IfErr, OnOk, MatchResult};
 ghost use Rattle.std.specs.Io.KnownBytes.{IsAtEnd};
 ghost use Rattle.qz_circ.specs.RuleFiles.{Reads};
+ghost use Rattle.qz_circ.specs.Search.{PlanNumbers};
 ghost use Rattle.qz_circ.specs.declared.fault.RuleFault.{RuleFault};
 ghost use Rattle.qz_circ.specs.ValidPrograms.{Valid};
 ghost use Rattle.qz_io.specs.Told.{TakesBytes};
@@ -9,7 +10,7 @@ ghost use Rattle.qz_io.specs.Transfers.{input_of};
 ghost use Rattle.qz_top.specs.Answer.{Storage, storage_of, output_of, IsCarriedOut};
 ghost use Rattle.qz_top.specs.Inputs.{most_input_bytes};
 ghost use Rattle.qz_top.specs.Making.{EndsEarly, EndsUnread, IsOpened, AreRulesRead, HasRules, IsMadeOfInput, EndsByInput};
-ghost use Rattle.qz_top.specs.Optimise.{status_of_rule_fault, status_of_unread_file, status_of_opening, default_plan, Optimises};
+ghost use Rattle.qz_top.specs.Optimise.{status_of_rule_fault, status_of_unread_file, status_of_opening, Optimises};
 ghost use Rattle.qz_top.specs.Optimised.{IsFound, IsOptimised, IsOptimisedBy, WritesOptimised};
 ghost use Rattle.qz_top.specs.Status.{IsBeforeInput, WritesNothing};
 
@@ -72,10 +73,10 @@ fn rules_of(alloc: Global, bytes: &[u8]) -> Result<Rules, Status>
 // Reads the rules in the open file; or gives the status that the command ends with before it has them.
 fn rules_in_open_file<F: Shelf>(alloc: Global, shelf: &mut F) -> Result<Rules, Status>
     requires { IsTrue (F.is_open shelf.old) }
-    // Whatever name it was opened by.
-    ensures made { (name : List ℕ) (opened : Storage) → IsOpened name (F.rest shelf.old) opened → opened.faults_after ≡ F.faults shelf.old → opened.answers_faults ≡ F.answers_faults →
+    // Whatever name it was opened by, and whatever the plan is.
+    ensures made { (name : List ℕ) (plan : PlanNumbers) (opened : Storage) → IsOpened name (F.rest shelf.old) opened → opened.faults_after ≡ F.faults shelf.old → opened.answers_faults ≡ F.answers_faults →
         let shown : Storage = record { files = opened.files; faults_before = opened.faults_before; faults_after = F.faults shelf.new; answers_faults = F.answers_faults } in
-        MatchResult result (λ rules. AreRulesRead name rules shown) (λ status. EndsUnread (Optimises name) status shown) }
+        MatchResult result (λ rules. AreRulesRead name rules shown) (λ status. EndsUnread (Optimises name plan) status shown) }
     ensures files { F.files shelf.new ≡ F.files shelf.old }
     ensures faults { F.faults shelf.old ≤ F.faults shelf.new }
 {
@@ -87,8 +88,9 @@ fn rules_in_open_file<F: Shelf>(alloc: Global, shelf: &mut F) -> Result<Rules, S
 
 // Reads the rules in the file with this name; or gives the status that the command ends with before it has them.
 fn rules_in<F: Shelf>(alloc: Global, name: &str, shelf: &mut F) -> Result<Rules, Status>
-    ensures made { let shown = storage_of F.files F.faults F.answers_faults shelf.old shelf.new in
-        MatchResult result (λ rules. AreRulesRead name.now rules shown) (λ status. EndsUnread (Optimises name.now) status shown) }
+    // Whatever the plan is.
+    ensures made { (plan : PlanNumbers) → let shown = storage_of F.files F.faults F.answers_faults shelf.old shelf.new in
+        MatchResult result (λ rules. AreRulesRead name.now rules shown) (λ status. EndsUnread (Optimises name.now plan) status shown) }
     ensures files { F.files shelf.new ≡ F.files shelf.old }
     ensures faults { F.faults shelf.old ≤ F.faults shelf.new }
 {
@@ -99,27 +101,20 @@ fn rules_in<F: Shelf>(alloc: Global, name: &str, shelf: &mut F) -> Result<Rules,
     }
 }
 
-// The plan of a search where the words give none.
-fn default_plan() -> Plan
-    ensures { result ≡ default_plan }
-{
-    Plan::new(16, 8, 100, 0).unwrap()
-}
-
-// The circuit that the search by these rules and the default plan finds from a program's.
-fn found(alloc: Global, rules: &Rules, program: &Program) -> Result<Vec<Inst>, Memory>
+// The circuit that the search by these rules and with this plan finds from a program's.
+fn found(alloc: Global, rules: &Rules, plan: Plan, program: &Program) -> Result<Vec<Inst>, Memory>
     requires { Valid program.now }
-    ensures { IfOk result (λ circuit. IsFound rules.now program.now circuit.items) }
+    ensures { IfOk result (λ circuit. IsFound rules.now plan program.now circuit.items) }
 {
-    search(alloc, rules, program.gates(), default_plan())
+    search(alloc, rules, program.gates(), plan)
 }
 
 // The text of the program with such a circuit as its gates, unless memory runs out.
-fn optimised(alloc: Global, rules: &Rules, program: Program) -> Result<Vec<u8>, Status>
+fn optimised(alloc: Global, rules: &Rules, plan: Plan, program: Program) -> Result<Vec<u8>, Status>
     requires { Valid program }
-    ensures { MatchResult result (λ text. IsOptimised rules.now program text.items) (λ status. status ≡ Status.Memory) }
+    ensures { MatchResult result (λ text. IsOptimised rules.now plan program text.items) (λ status. status ≡ Status.Memory) }
 {
-    let Ok(circuit) = found(alloc, rules, &program) else {
+    let Ok(circuit) = found(alloc, rules, plan, &program) else {
         return Err(Status::Memory);
     };
     let changed = program.with_gates(circuit);
@@ -130,16 +125,17 @@ fn optimised(alloc: Global, rules: &Rules, program: Program) -> Result<Vec<u8>, 
 fn optimised_input<I: Source>(
     alloc: Global,
     rules: &Rules,
+    plan: Plan,
     input: &mut I,
 ) -> Result<Vec<u8>, Status>
     ensures made { let shown = input_of I.left I.faults I.answers_faults input.old input.new in
-        MatchResult result (λ text. IsMadeOfInput (λ program. IsOptimised rules.now program text.items) shown) (λ status. EndsByInput status shown) }
+        MatchResult result (λ text. IsMadeOfInput (λ program. IsOptimised rules.now plan program text.items) shown) (λ status. EndsByInput status shown) }
     ensures at_end { OnOk result (IsAtEnd (I.left input.new)) }
     ensures taken { TakesBytes (I.left input.old) (I.left input.new) (λ n. n ≤ most_input_bytes + 1) }
     ensures faults { I.faults input.old ≤ I.faults input.new }
 {
     match program_in(alloc, input) {
-        Ok(program) => optimised(alloc, rules, program),
+        Ok(program) => optimised(alloc, rules, plan, program),
         Err(status) => Err(status),
     }
 }
@@ -148,12 +144,13 @@ fn optimised_input<I: Source>(
 fn optimised_by<I: Source, F: Shelf>(
     alloc: Global,
     name: &str,
+    plan: Plan,
     input: &mut I,
     shelf: &mut F,
 ) -> Result<Vec<u8>, Status>
     ensures made { let input_shown = input_of I.left I.faults I.answers_faults input.old input.new in
         let shelf_shown = storage_of F.files F.faults F.answers_faults shelf.old shelf.new in
-        MatchResult result (λ text. IsOptimisedBy name.now text.items input_shown shelf_shown) (λ status. EndsEarly (Optimises name.now) status input_shown shelf_shown) }
+        MatchResult result (λ text. IsOptimisedBy name.now plan text.items input_shown shelf_shown) (λ status. EndsEarly (Optimises name.now plan) status input_shown shelf_shown) }
     ensures at_end { OnOk result (IsAtEnd (I.left input.new)) }
     ensures taken { TakesBytes (I.left input.old) (I.left input.new) (λ n. n ≤ most_input_bytes + 1) }
     ensures unread { (input.new ≡ input.old) ⊎ HasRules name.now (storage_of F.files F.faults F.answers_faults shelf.old shelf.new) }
@@ -164,7 +161,7 @@ fn optimised_by<I: Source, F: Shelf>(
     ensures shelf_faults { F.faults shelf.old ≤ F.faults shelf.new }
 {
     match rules_in(alloc, name, shelf) {
-        Ok(rules) => optimised_input(alloc, &rules, input),
+        Ok(rules) => optimised_input(alloc, &rules, plan, input),
         Err(status) => Err(status),
     }
 }
@@ -174,13 +171,14 @@ fn optimised_by<I: Source, F: Shelf>(
 pub(crate) fn optimise<I: Source, F: Shelf, O: Sink>(
     alloc: Global,
     name: &str,
+    plan: Plan,
     input: &mut I,
     shelf: &mut F,
     out: &mut O,
 ) -> Status
-    ensures carried_out { IsCarriedOut (Optimises name.now) result
+    ensures carried_out { IsCarriedOut (Optimises name.now plan) result
         (record { input = input_of I.left I.faults I.answers_faults input.old input.new; shelf = storage_of F.files F.faults F.answers_faults shelf.old shelf.new; out = output_of O.written O.faults O.answers_faults out.old out.new }) }
-    ensures optimised { result ≡ Status.Ok → WritesOptimised name.now
+    ensures optimised { result ≡ Status.Ok → WritesOptimised name.now plan
         (record { input = input_of I.left I.faults I.answers_faults input.old input.new; shelf = storage_of F.files F.faults F.answers_faults shelf.old shelf.new; out = output_of O.written O.faults O.answers_faults out.old out.new }) }
     ensures at_end { result ≡ Status.Ok → IsAtEnd (I.left input.new) }
     ensures taken { TakesBytes (I.left input.old) (I.left input.new) (λ n. n ≤ most_input_bytes + 1) }
@@ -194,7 +192,7 @@ pub(crate) fn optimise<I: Source, F: Shelf, O: Sink>(
     ensures faults { O.faults out.old ≤ O.faults out.new }
     ensures wants { O.wants out.old ≤ O.wants out.new }
 {
-    match optimised_by(alloc, name, input, shelf) {
+    match optimised_by(alloc, name, plan, input, shelf) {
         Ok(text) => write_text(&text, out),
         Err(status) => status,
     }

@@ -11,5 +11,5 @@ search-requires-clause-gates c =
 
 pub returns : goal.returns
 returns c =
-    circuit_found (λ d. d.items) c.args.rules.now c.args.program.now _ _ c.search.result c.requires c.gates.ensures c.default_plan.ensures
+    circuit_found (λ d. d.items) c.args.rules.now c.args.plan c.args.program.now _ c.search.result c.requires c.gates.ensures
     (record { best = c.search.ensures.best; cheap = c.search.ensures.cheap; lawful = c.search.ensures.lawful; equivalent = c.search.ensures.equivalent })

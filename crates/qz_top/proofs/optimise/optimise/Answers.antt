@@ -9,7 +9,7 @@ use Rattle.qz_top.proofs.optimise.optimise.Goals as goal
 
 pub returns-in-Ok-clause-carried_out : goal.returns-in-Ok-clause-carried_out
 returns-in-Ok-clause-carried_out g c =
-    carried_by_text (Optimises c.args.name.now) c.in-Ok.text.items _ _ (optimised_written c.args.name.now c.in-Ok.text.items _ _ c.in-Ok.ensures.made)
+    carried_by_text (Optimises c.args.name.now c.args.plan) c.in-Ok.text.items _ _ (optimised_written c.args.plan c.args.name.now c.in-Ok.text.items _ _ c.in-Ok.ensures.made)
     c.write_text.ensures.begun
     (λ e. c.write_text.ensures.ok e ∙ ap (append_known (g.O.Sink.written c.args.out.now)) c.deref.ensures.value)
     (λ k. subst (λ (text : List ℕ). HasPart (g.O.Sink.written c.args.out.now) text (g.O.Sink.written c.write_text.new.out)) c.deref.ensures.value (c.write_text.ensures.part k))

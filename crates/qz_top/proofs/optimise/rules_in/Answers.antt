@@ -4,8 +4,8 @@ use Rattle.qz_top.proofs.OptimiseLemmas.{file_missing, file_unopened}
 use Rattle.qz_top.proofs.optimise.rules_in.Goals as goal
 
 pub returns-in-Ok-true-clause-made : goal.returns-in-Ok-true-clause-made
-returns-in-Ok-true-clause-made g c =
-    c.rules_in_open_file.ensures.made c.args.name.now (storage_of g.F.Shelf.files g.F.Shelf.faults g.F.Shelf.answers_faults c.args.shelf.now c.open.new.self)
+returns-in-Ok-true-clause-made g c = λ plan.
+    c.rules_in_open_file.ensures.made c.args.name.now plan (storage_of g.F.Shelf.files g.F.Shelf.faults g.F.Shelf.answers_faults c.args.shelf.now c.open.new.self)
     (record {
       found = rw c.in-Ok-true.field-0-test at c.in-Ok-true.ensures.found;
       whole = c.in-Ok-true.ensures.whole (ap Ok c.in-Ok-true.field-0-test);
@@ -14,9 +14,9 @@ returns-in-Ok-true-clause-made g c =
     }) refl refl
 
 pub returns-in-Ok-false-clause-made : goal.returns-in-Ok-false-clause-made
-returns-in-Ok-false-clause-made g c =
-    file_missing c.args.name.now _ (rw c.in-Ok-false.field-0-test at c.in-Ok-false.ensures.found) (λ h. c.in-Ok-false.ensures.answered h (λ e. cc))
+returns-in-Ok-false-clause-made g c = λ plan.
+    file_missing plan c.args.name.now _ (rw c.in-Ok-false.field-0-test at c.in-Ok-false.ensures.found) (λ h. c.in-Ok-false.ensures.answered h (λ e. cc))
 
 pub returns-in-Err-clause-made : goal.returns-in-Err-clause-made
-returns-in-Err-clause-made g c =
-    rw c.status_of_opening.ensures (file_unopened c.in-Err.fault c.args.name.now _ (λ e. c.in-Err.ensures.failed (ap Err e)) (λ h k. c.in-Err.ensures.answered h (λ e. k cc)))
+returns-in-Err-clause-made g c = λ plan.
+    rw c.status_of_opening.ensures (file_unopened plan c.in-Err.fault c.args.name.now _ (λ e. c.in-Err.ensures.failed (ap Err e)) (λ h k. c.in-Err.ensures.answered h (λ e. k cc)))

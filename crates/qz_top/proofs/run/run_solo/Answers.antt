@@ -1,17 +1,30 @@
 use Rattle.std.proofs.Common.{map, string_bytes, refl}
 use Rattle.qz_top.proofs.AnswerLemmas.{words_carried, words_refused}
-use Rattle.qz_top.proofs.RunLemmas.{words_need, words_need_or}
+use Rattle.qz_top.proofs.AnswerTexts.{answer_tells}
+use Rattle.qz_top.proofs.RunLemmas.{same_command, words_need, words_need_or}
 use Rattle.qz_top.proofs.run.run_solo.Goals as goal
 
 pub returns-in-Ok-clause-carried_out : goal.returns-in-Ok-clause-carried_out
-returns-in-Ok-clause-carried_out g c = words_carried (map string_bytes c.args.words.now) c.in-Ok.command _ _ c.in-Ok.ensures.command c.carry_out.ensures.carried_out
+returns-in-Ok-clause-carried_out g c = words_carried (map string_bytes c.args.words.now) c.in-Ok.command _ _ c.in-Ok.ensures.command c.carry_out-status.ensures.carried_out
+
+pub returns-in-Ok-clause-rules : goal.returns-in-Ok-clause-rules
+returns-in-Ok-clause-rules g c = λ b workers seed report is done. c.carry_out-status.ensures.rules b workers seed report (same_command (map string_bytes c.args.words.now) c.in-Ok.command _ c.in-Ok.ensures.command is) done
+
+pub returns-in-Ok-clause-optimised : goal.returns-in-Ok-clause-optimised
+returns-in-Ok-clause-optimised g c = λ k plan workers is done. c.carry_out-status.ensures.optimised k plan workers (same_command (map string_bytes c.args.words.now) c.in-Ok.command _ c.in-Ok.ensures.command is) done
 
 pub returns-in-Ok-clause-unread : goal.returns-in-Ok-clause-unread
-returns-in-Ok-clause-unread g c = words_need_or (map string_bytes c.args.words.now) c.in-Ok.command _ c.in-Ok.ensures.command c.carry_out.ensures.unread
+returns-in-Ok-clause-unread g c = words_need_or (map string_bytes c.args.words.now) c.in-Ok.command _ c.in-Ok.ensures.command c.carry_out-status.ensures.unread
 
 pub returns-in-Ok-clause-read_fault : goal.returns-in-Ok-clause-read_fault
-returns-in-Ok-clause-read_fault g c = λ e. words_need (map string_bytes c.args.words.now) c.in-Ok.command _ c.in-Ok.ensures.command (c.carry_out.ensures.read_fault e)
+returns-in-Ok-clause-read_fault g c = λ e. words_need (map string_bytes c.args.words.now) c.in-Ok.command _ c.in-Ok.ensures.command (c.carry_out-status.ensures.read_fault e)
+
+pub returns-in-Ok-clause-err_answer : goal.returns-in-Ok-clause-err_answer
+returns-in-Ok-clause-err_answer g c = answer_tells (map string_bytes c.args.words.now) c.carry_out-status.result
+
+pub returns-in-Err-clause-err_answer : goal.returns-in-Err-clause-err_answer
+returns-in-Err-clause-err_answer g c = answer_tells (map string_bytes c.args.words.now) c.status_of_words-status.result
 
 pub returns-in-Err-clause-carried_out : goal.returns-in-Err-clause-carried_out
 returns-in-Err-clause-carried_out g c =
-    rw c.status_of_words.ensures ((words_refused (map string_bytes c.args.words.now) c.in-Err.fault _ _ c.in-Err.ensures.command refl refl).carried_out _ refl refl)
+    rw c.status_of_words-status.ensures ((words_refused (map string_bytes c.args.words.now) c.in-Err.fault _ _ c.in-Err.ensures.command refl refl).carried_out _ refl refl)

@@ -1,0 +1,41 @@
+-- What is told of the text of a status.
+use Rattle.std.proofs.Common.{◌≡◌, ℕ, List, ◌++◌, length, codes, Option, Result, Ok, Err, OnOk, OnErr, sym, ap, subst, ◌∙◌, append_assoc, take_all, arith}
+use Rattle.std.specs.Fmt.{decimal}
+use Rattle.std.specs.Io.KnownBytes.{append_known}
+use Rattle.qz_circ.specs.declared.fault.QasmFault.{QasmFault}
+use Rattle.qz_io.specs.declared.fault.IoFault.{IoFault}
+use Rattle.qz_io.specs.Told.{HasPart}
+use Rattle.qz_top.specs.declared.status.Status.{Status}
+use Rattle.qz_top.specs.declared.status.Status.TheVariants.{Qasm}
+use Rattle.qz_top.specs.FaultTexts.{fault_kind, fault_place, status_text}
+
+-- five parts, put together from the left or from the right
+pub five_parts : (a b c d e : List ℕ) → a ++ b ++ c ++ d ++ e ≡ a ++ (b ++ (c ++ (d ++ e)))
+five_parts a b c d e = append_assoc (a ++ b ++ c) d e ∙ append_assoc (a ++ b) c (d ++ e) ∙ append_assoc a b (c ++ (d ++ e))
+
+-- six parts
+pub six_parts : (a b c d e f : List ℕ) → a ++ b ++ c ++ d ++ e ++ f ≡ a ++ (b ++ (c ++ (d ++ (e ++ f))))
+six_parts a b c d e f = append_assoc (a ++ b ++ c ++ d) e f ∙ five_parts a b c d (e ++ f)
+
+-- the pieces of the text of a program's fault, of this kind and at this place
+pub fault_pieces : (fault : QasmFault) (kind : List ℕ) (place : ℕ) → kind ≡ fault_kind fault → place ≡ fault_place fault → status_text (Qasm fault) ≡ codes "program: " ++ (kind ++ (codes " at " ++ (decimal place ++ codes "\n")))
+fault_pieces fault kind place k p =
+    five_parts (codes "program: ") (fault_kind fault) (codes " at ") (decimal (fault_place fault)) (codes "\n") ∙
+    ap (λ (name : List ℕ). codes "program: " ++ (name ++ (codes " at " ++ (decimal (fault_place fault) ++ codes "\n")))) (sym k) ∙
+    ap (λ (n : ℕ). codes "program: " ++ (kind ++ (codes " at " ++ (decimal n ++ codes "\n")))) (sym p)
+
+-- a text that is written is that of the status, where this is its text
+module _ (s v : Status) (is : s ≡ v) (text : List ℕ) (same : status_text v ≡ text) (o q : Option (List ℕ)) (result : Result (Unit {0}) IoFault) where
+  the_text : text ≡ status_text s
+  the_text = sym (ap status_text is ∙ same)
+
+  pub whole_text : OnOk result (q ≡ append_known o text) → OnOk result (q ≡ append_known o (status_text s))
+  whole_text told = subst (λ (t : List ℕ). OnOk result (q ≡ append_known o t)) the_text told
+
+  pub part_of_text : OnErr result (HasPart o text q) → OnErr result (HasPart o (status_text s) q)
+  part_of_text told = subst (λ (t : List ℕ). OnErr result (HasPart o t q)) the_text told
+
+-- a text that is written whole, or a part of it, is written in part
+pub told_in_part : (text : List ℕ) (o q : Option (List ℕ)) (result : Result (Unit {0}) IoFault) → OnOk result (q ≡ append_known o text) → OnErr result (HasPart o text q) → HasPart o text q
+told_in_part text o q (Ok u) whole part = (length text, whole ∙ ap (append_known o) (sym (take_all (length text) text (omega arith))))
+told_in_part text o q (Err fault) whole part = part

@@ -1,0 +1,15 @@
+-- Texts that are made of pieces.
+use Rattle.std.specs.Prelude.{ℕ, List}
+use Rattle.std.specs.Fmt.{decimal}
+use Rattle.std.specs.List.{flat_map}
+use Rattle.qz_top.specs.declared.pieces.Piece.{Piece}
+use Rattle.qz_top.specs.declared.pieces.Piece.TheVariants.{Text, Number}
+
+-- a piece is a text, or a number in decimal
+abbrev pub piece_text : Piece → List ℕ
+piece_text (Text text) = text.now
+piece_text (Number number) = decimal number
+
+-- the texts of all pieces, one after another
+abbrev pub pieces_text : List Piece → List ℕ
+pieces_text pieces = flat_map piece_text pieces
