@@ -1,16 +1,17 @@
 //! What the program answers for some lists of words.
 
-use qz_circ::Which;
+use qz_circ::{Bounds, Which};
 use qz_io::{MemSink, SureShelf, SureSink, SureSource};
 use qz_samples::two_gates;
-use qz_top::{Status, run_solo};
+use qz_search::Plan;
+use qz_top::{Command, Status, WordFault, read_words, run_solo};
 use std::alloc::{AllocError, Global};
 use std::process::Abort;
 use std::str;
 use std::test::Fail;
 
 // The words of this text, which are parted by single spaces.
-fn words_of(alloc: Global, text: &str) -> Result<Vec<String>, AllocError> {
+pub(super) fn words_of(alloc: Global, text: &str) -> Result<Vec<String>, AllocError> {
     let mut words = Vec::new(alloc);
     for word in text.split(' ') {
         words.push(String::from_str(alloc, word)?)?;
@@ -59,7 +60,7 @@ fn is_written(alloc: Global, words: &[String], rules: &str) -> bool {
 }
 
 // The words of this text give these rules.
-fn writes(rt: &impl Abort, alloc: Global, text: &str, rules: &str) {
+pub(super) fn writes(rt: &impl Abort, alloc: Global, text: &str, rules: &str) {
     let done = words_of(alloc, text).is_ok_and(|words| is_written(alloc, &words, rules));
     assert!(rt; done, "at {text}");
 }
@@ -72,6 +73,13 @@ fn writes_rules(rt: HostRuntime) {
     let none = "quartz-rules 1\nbounds 1 2 0\nclasses 0\nend\n";
     writes(&rt, alloc, "generate 01 2 000", none);
     writes(&rt, alloc, "generate 2 1 0", two_gates());
+    writes(&rt, alloc, "generate 2 1 0 --workers 2", two_gates());
+    writes(
+        &rt,
+        alloc,
+        "generate 2 1 0 --seed 2 --workers 16",
+        two_gates(),
+    );
     assert_eq!(rt; number_of(Status::Ok), 0);
 }
 
@@ -143,9 +151,95 @@ fn is_refused(alloc: Global, words: &[String], status: Status) -> bool {
 }
 
 // The words of this text are refused with this status.
-fn refuses(rt: &impl Abort, alloc: Global, text: &str, status: Status) {
+pub(super) fn refuses(rt: &impl Abort, alloc: Global, text: &str, status: Status) {
     let done = words_of(alloc, text).is_ok_and(|words| is_refused(alloc, &words, status));
     assert!(rt; done, "at {text}");
+}
+
+// A report isn't built yet.
+#[test]
+fn builds_no_report(rt: HostRuntime) {
+    let alloc = rt.alloc();
+    let unbuilt = Status::Unbuilt;
+    refuses(&rt, alloc, "generate 2 1 0 --report", unbuilt);
+    let last = "generate 4 3 2 --report --workers 16";
+    refuses(&rt, alloc, last, unbuilt);
+    let qubits = Status::Limit(Which::BoundsQubits);
+    refuses(&rt, alloc, "generate 2 4 0 --report", qubits);
+    refuses(&rt, alloc, "generate 2 1 0 --report 1", Status::Usage);
+    assert_eq!(rt; number_of(unbuilt), 11);
+}
+
+fn read(words: &[String]) -> Result<Command, WordFault> {
+    read_words(words)
+}
+
+// The words of this text ask for this command.
+fn asks(rt: &impl Abort, alloc: Global, text: &str, command: Option<Command>) {
+    let done = words_of(alloc, text).is_ok_and(|words| read(&words).ok() == command);
+    assert!(rt; done && command.is_some(), "at {text}");
+}
+
+// The words of this text are refused for this.
+fn faults_of(rt: &impl Abort, alloc: Global, text: &str, fault: WordFault) {
+    let done = words_of(alloc, text).is_ok_and(|words| read(&words) == Err(fault));
+    assert!(rt; done, "at {text}");
+}
+
+// The generation of two gates on one qubit.
+fn generation(workers: u64, seed: u64, report: bool) -> Option<Command> {
+    let bounds = Bounds::new(2, 1, 0).ok()?;
+    Some(Command::Generate {
+        bounds,
+        workers,
+        seed,
+        report,
+    })
+}
+
+#[test]
+fn reads_options_of_a_generation(rt: HostRuntime) {
+    let alloc = rt.alloc();
+    asks(&rt, alloc, "generate 2 1 0", generation(1, 0, false));
+    let text = "generate 2 1 0 --workers 16 --seed 999999999999999999 --report";
+    let all = generation(16, 999_999_999_999_999_999, true);
+    asks(&rt, alloc, text, all);
+    let text = "generate 002 01 0 --report --seed 007 --workers 02";
+    asks(&rt, alloc, text, generation(2, 7, true));
+    let text = "generate 2 1 0 --seed 1";
+    asks(&rt, alloc, text, generation(1, 1, false));
+    asks(&rt, alloc, "tidy", Some(Command::Tidy));
+}
+
+// An optimisation by the file that this word names, with a plan of so many rounds and circuits.
+fn optimisation(rules: usize, plan: [u64; 4], workers: u64) -> Option<Command> {
+    let plan = Plan::new(plan[0], plan[1], plan[2], plan[3]).ok()?;
+    Some(Command::Optimise {
+        rules,
+        plan,
+        workers,
+    })
+}
+
+// The value of an option is the next word, whatever it is.
+#[test]
+fn reads_options_of_an_optimisation(rt: HostRuntime) {
+    let alloc = rt.alloc();
+    let default = [16, 8, 100, 0];
+    asks(
+        &rt,
+        alloc,
+        "optimise --rules r",
+        optimisation(2, default, 1),
+    );
+    let text = "optimise --slack 4 --cap 500 --batch 64 --rounds 64 --workers 16 --rules r";
+    asks(&rt, alloc, text, optimisation(12, [64, 64, 500, 4], 16));
+    let text = "optimise --rules --cap --cap 7";
+    asks(&rt, alloc, text, optimisation(2, [16, 8, 7, 0], 1));
+    let text = "optimise --rounds 0 --rules --rules --workers 4";
+    asks(&rt, alloc, text, optimisation(4, [0, 8, 100, 0], 4));
+    let text = "optimise --batch 1 --rules tidy --rounds 4096";
+    asks(&rt, alloc, text, optimisation(4, [4096, 1, 100, 0], 1));
 }
 
 #[test]
@@ -160,7 +254,7 @@ fn refuses_words(rt: HostRuntime) {
     refuses(&rt, alloc, "generate 2 +1 0", usage);
     refuses(&rt, alloc, "generate 2 1 0000000000000000000", usage);
     refuses(&rt, alloc, "generate 9 9 x", usage);
-    refuses(&rt, alloc, "generate 2 1 0 --seed 1", usage);
+    refuses(&rt, alloc, "generate 2 1 0 --seed 1 --seed 2", usage);
     refuses(&rt, alloc, "tidy now", usage);
     refuses(&rt, alloc, "optimise", usage);
     assert_eq!(rt; number_of(Status::Usage), 2);
@@ -182,4 +276,101 @@ fn refuses_numbers_past_a_limit(rt: HostRuntime) {
     for status in [qubits, gates, params, circuits] {
         assert_eq!(rt; number_of(status), 3);
     }
+}
+
+// The words of each of these texts are in no written form.
+fn usages(rt: &impl Abort, alloc: Global, texts: &[&str]) {
+    for text in texts {
+        faults_of(rt, alloc, text, WordFault::Usage);
+    }
+}
+
+// Words in no written form are that, also where a number is past a limit.
+#[test]
+fn reads_no_other_words(rt: HostRuntime) {
+    let alloc = rt.alloc();
+    usages(
+        &rt,
+        alloc,
+        &["--", "--help", "--version", "Tidy", "tidy --"],
+    );
+    let options_of_generations = [
+        "generate 2 1 0 --workers=2",
+        "generate 2 1 0 --",
+        "generate 2 1 0 4",
+        "generate --seed 1 2 1 0",
+        "generate 2 1 --seed 1 0",
+        "generate 2 1 0 --workers",
+        "generate 2 1 0 --workers x",
+        "generate 2 1 0 --workers 2 3",
+        "generate 2 1 0 --workers 0000000000000000001",
+        "generate 2 1 0 --report --report",
+        "generate 2 1 0 --seed --report",
+        "generate 2 1 0 --rounds 1",
+        "generate 2 1 0 --rules r",
+        "generate 9 9 9 --workers 0 --seed",
+    ];
+    usages(&rt, alloc, &options_of_generations);
+    let options_of_optimisations = [
+        "optimise r",
+        "optimise --rules",
+        "optimise --rules ",
+        "optimise --cap 7",
+        "optimise --rules --cap 7",
+        "optimise --rules r --rules r",
+        "optimise --rules r --cap 7 --cap 7",
+        "optimise --rules r --seed 1",
+        "optimise --rules r --report",
+        "optimise --rules r --rounds -1",
+        "optimise --rules r --slack",
+        "optimise --rules=r",
+        "optimise --batch 0 --workers 0",
+        "optimise --batch 0 --rules r --rounds x",
+    ];
+    usages(&rt, alloc, &options_of_optimisations);
+}
+
+// The words of this text pass this limit first.
+fn passes(rt: &impl Abort, alloc: Global, text: &str, which: Which) {
+    faults_of(rt, alloc, text, WordFault::Limit(which));
+}
+
+#[test]
+fn tells_the_first_limit_of_a_generation(rt: HostRuntime) {
+    let alloc = rt.alloc();
+    let text = "generate 7 4 4 --workers 0";
+    passes(&rt, alloc, text, Which::BoundsQubits);
+    let text = "generate 7 1 4 --workers 17";
+    passes(&rt, alloc, text, Which::BoundsGates);
+    let text = "generate 6 3 4 --workers 17";
+    passes(&rt, alloc, text, Which::BoundsParams);
+    let text = "generate 5 2 2 --workers 0";
+    passes(&rt, alloc, text, Which::BoundsCircuits);
+    passes(&rt, alloc, "generate 2 1 0 --workers 0", Which::Workers);
+    passes(&rt, alloc, "generate 2 1 0 --workers 17", Which::Workers);
+}
+
+#[test]
+fn tells_the_first_limit_of_an_optimisation(rt: HostRuntime) {
+    let alloc = rt.alloc();
+    let text = "optimise --workers 0 --slack 5 --rounds 9999 --cap 0 --batch 0 --rules r";
+    passes(&rt, alloc, text, Which::PlanBatch);
+    let text = "optimise --batch 65 --cap 501 --rules r";
+    passes(&rt, alloc, text, Which::PlanBatch);
+    let text = "optimise --workers 0 --slack 5 --rounds 9999 --cap 0 --rules r";
+    passes(&rt, alloc, text, Which::PlanCap);
+    let text = "optimise --rounds 9999 --cap 501 --rules r";
+    passes(&rt, alloc, text, Which::PlanCap);
+    let text = "optimise --workers 17 --slack 5 --rounds 513 --rules r";
+    passes(&rt, alloc, text, Which::PlanRounds);
+    let text = "optimise --rounds 9999 --batch 1 --rules r";
+    passes(&rt, alloc, text, Which::PlanRounds);
+    let text = "optimise --rounds 999999999999999999 --batch 64 --rules r";
+    passes(&rt, alloc, text, Which::PlanRounds);
+    let text = "optimise --workers 0 --slack 5 --rules r";
+    passes(&rt, alloc, text, Which::PlanSlack);
+    let text = "optimise --workers 0 --rules r";
+    passes(&rt, alloc, text, Which::Workers);
+    let text = "optimise --workers 17 --rules r";
+    passes(&rt, alloc, text, Which::Workers);
 }

@@ -6,4 +6,8 @@ mod commands;
 #[cfg(test)]
 mod optimise;
 #[cfg(test)]
+mod texts;
+#[cfg(test)]
 mod tidy;
+#[cfg(test)]
+mod trials;
