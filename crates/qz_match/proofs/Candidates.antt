@@ -1,10 +1,12 @@
 -- The walk finds the only positions from a first one on at which a left side may stand.
-use Rattle.std.proofs.Common.{◌≡◌, ◌≢◌, ℕ, ◌+◌, ◌<◌, ◌≤◌, ◌==◌, ◌||◌, Bool, true, false, List, [], ◌∷◌, map, length, get_or, take, Some, None, refl, sym, ap, ◌∙◌, subst, arith, ◌⊎◌, inl, inr}
+use Rattle.std.proofs.Common.{◌≡◌, ◌≢◌, ℕ, ◌+◌, ◌*◌, ◌%◌, ◌<◌, ◌≤◌, ◌==◌, ◌||◌, Bool, true, false, List, [], ◌∷◌, length, get_or, take, Some, None, refl, sym, ap, ◌∙◌, subst, arith, ◌⊎◌, inl, inr}
 use Rattle.std.specs.Prelude.{slice_set}
 use Rattle.std.specs.List.{AllByRecursion, slice_get}
-use Rattle.std.proofs.lemmas.Bool.{cases_eq, eqb-true}
+use Rattle.std.proofs.lemmas.Bool.{cases_eq, eqb-true, eq-eqb}
 use Rattle.std.proofs.lemmas.List.{get_or-set_same, get_or-set_other, length-set, length-take, get_or-take, ext_get_or, take_more}
 use Rattle.qz_circ.specs.declared.binding.Binding.{Binding}
+use Rattle.qz_circ.specs.declared.circuit.Expr.{Expr}
+use Rattle.qz_circ.specs.declared.circuit.Expr.TheVariants.{Const, Plus, Minus, Sum}
 use Rattle.qz_circ.specs.declared.circuit.Op.{Op}
 use Rattle.qz_circ.specs.declared.circuit.Op.TheVariants.{H as RuleH, X as RuleX, Cx as RuleCx, Rz as RuleRz}
 use Rattle.qz_circ.specs.declared.circuit.Inst.{Inst}
@@ -13,13 +15,13 @@ use Rattle.qz_circ.specs.Circuit.{Circuit, IsOn}
 use Rattle.qz_circ.specs.ProgramCircuits.{ProgramCircuit, IsProgramGate}
 use Rattle.qz_circ.specs.Gathering.{qubits_of}
 use Rattle.qz_circ.specs.Instances.{slot}
-use Rattle.qz_circ.specs.Places.{is_listed, bind_gate, bind_gates, nothing_bound}
+use Rattle.qz_circ.specs.Places.{is_listed, value_of_angle}
 use Rattle.qz_match.specs.declared.neighbours.Link.{Link}
 use Rattle.qz_match.specs.declared.walk.Step.{Step}
 use Rattle.qz_match.specs.Neighbours.{gate_at, beside, AreLinksOf}
 use Rattle.qz_match.specs.Walks.{rule_gate_at, acts_at, AreBeside, IsStep, reached, IsWalk}
-use Rattle.qz_match.specs.Starts.{is_alike, Matches, AreOnly}
-use Rattle.qz_match.proofs.Bindings.{and_then-some, IsGateOf}
+use Rattle.qz_match.specs.Starts.{may_have, is_alike, Matches, AreOnly}
+use Rattle.qz_match.proofs.Bindings.{IsGateOf}
 use Rattle.qz_match.proofs.Matching.{IsMatch, match-is, operand_bound, gate_of_at, match_neighbours, rise_from}
 use Rattle.qz_match.proofs.Walks.{IsWithin, step_within, follows_at, reached-push}
 
@@ -33,7 +35,13 @@ alike_of : (bind : Binding) (f : Op) (g : Inst) → IsGateOf bind f g → is_ali
 alike_of bind (RuleH t) (H w) h = refl
 alike_of bind (RuleX t) (X w) h = refl
 alike_of bind (RuleCx a t) (Cx v w) h = refl
-alike_of bind (RuleRz t e) (Rz w k) h = refl
+alike_of bind (RuleRz t e) (Rz w k) h = by e h.1
+  where
+    by : (e : Expr) → value_of_angle bind.params e ≡ Some k → may_have e k ≡ true
+    by (Const i) f = let value : 64 * i % 512 ≡ k = cc in eq-eqb (64 * i % 512) k value
+    by (Plus i) f = refl
+    by (Minus i) f = refl
+    by (Sum i j) f = refl
 alike_of bind f g h = absurd h
 
 -- the steps of a walk stay within the left side
@@ -149,12 +157,10 @@ walked_all left c p steps found k short some on lawful walk whole h = (h.size, a
         one [] size e = absurd (omega arith)
         one (x ∷ xs) size e = rw e
 
--- a left side whose first gate doesn't bind matches nowhere
-pub never_begins : (left : Circuit) (c : ProgramCircuit) (p : ℕ) → 0 < length left → IsOn 3 3 left → AllByRecursion (IsProgramGate 64) c → bind_gate nothing_bound (rule_gate_at left 0) (gate_at c p) ≡ None → AreOnly left c p None
-unfolding bind_gates
-never_begins [] c p some on lawful none = absurd (omega arith)
-never_begins (f ∷ left) c p some on lawful none = λ ps m.
-    let matched = match-is (f ∷ left) c p ps on lawful m in
-    let parts = and_then-some (bind_gate nothing_bound f (gate_at c p)) (λ next. bind_gates next left (map (gate_at c) ps)) m.binding matched.binds in
-    let wrong : None ≡ Some parts.0 = sym none ∙ parts.1 in
+-- a left side whose first gate isn't like the one at p matches nowhere from there
+pub never_begins : (left : Circuit) (c : ProgramCircuit) (p : ℕ) → 0 < length left → IsOn 3 3 left → AllByRecursion (IsProgramGate 64) c → is_alike (rule_gate_at left 0) (gate_at c p) ≡ false → AreOnly left c p None
+never_begins left c p some on lawful unlike = λ ps m.
+    let matched = match-is left c p ps on lawful m in
+    let alike = alike_of m.binding (rule_gate_at left 0) (gate_at c p) (gate_of_at m.binding (gate_at c) left (p ∷ ps) matched.gates 0 some) in
+    let wrong : true ≡ false = sym alike ∙ unlike in
     cc

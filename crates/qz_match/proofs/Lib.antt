@@ -11,3 +11,4 @@ pub mod Matching
 pub mod Starts
 pub mod Candidates
 pub mod UsableRules
+pub mod Lacking

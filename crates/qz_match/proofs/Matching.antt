@@ -71,7 +71,7 @@ each_gate P [] all x l = absurd (omega arith)
 each_gate P (g ∷ c) all zero l = all.0
 each_gate P (g ∷ c) all (suc x) l = each_gate P c all.1 x (omega arith)
 
-gates_lawful : (P : Inst → Type 0) (c : ProgramCircuit) → AllByRecursion P c → (low : ℕ) (ps : List ℕ) → RiseFrom low (length c) ps → AllByRecursion P (map (gate_at c) ps)
+pub gates_lawful : (P : Inst → Type 0) (c : ProgramCircuit) → AllByRecursion P c → (low : ℕ) (ps : List ℕ) → RiseFrom low (length c) ps → AllByRecursion P (map (gate_at c) ps)
 gates_lawful P c all low [] rise = tt
 gates_lawful P c all low (p ∷ ps) rise = (each_gate P c all p rise.1, gates_lawful P c all (suc p) ps rise.2)
 

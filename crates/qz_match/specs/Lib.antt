@@ -1,3 +1,4 @@
+pub mod Kinds
 pub mod Neighbours
 pub mod Walks
 pub mod Starts

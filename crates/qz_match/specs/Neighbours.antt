@@ -6,7 +6,9 @@ use Rattle.qz_circ.specs.declared.circuit.Inst.TheVariants.{H}
 use Rattle.qz_circ.specs.Gathering.{qubits_of, is_on}
 use Rattle.qz_circ.specs.Instances.{slot}
 use Rattle.qz_circ.specs.ProgramCircuits.{ProgramCircuit}
+use Rattle.qz_match.specs.declared.kinds.Kinds.{Kinds}
 use Rattle.qz_match.specs.declared.neighbours.Link.{Link}
+use Rattle.qz_match.specs.Kinds.{AreShown}
 
 -- Both positions, the greater below n, pass the test, and none between them does.
 pub record AreNeighbours (passes : ℕ → Bool) (n p q : ℕ) : Type 0 where
@@ -46,6 +48,16 @@ FindsNext c n links =
 pub record AreLinksOf (c : ProgramCircuit) (links : List Link) : Type 0 where
   pub previous : FindsPrevious c (length c) links
   pub next : FindsNext c 0 links
+
+-- the links between gates and the kinds of gates
+pub record LinksAndKinds : Type 0 where
+  pub links : List Link
+  pub kinds : Kinds
+
+-- they are those of this circuit
+pub record AreNeighboursOf (c : ProgramCircuit) (n : LinksAndKinds) : Type 0 where
+  pub links : AreLinksOf c n.links
+  pub kinds : AreShown c n.kinds
 
 -- each slot has the last position before i of a gate on its qubit, if there is one
 abbrev pub HasLast : ProgramCircuit → ℕ → List (Option ℕ) → Type 0

@@ -1,7 +1,9 @@
 -- The places with a given first position.
-use Rattle.std.specs.Prelude.{◌≡◌, ℕ, suc, ◌-◌, ◌&&◌, Bool, true, false, if◌then◌else◌, List, [], ◌∷◌, map, length, nat_lt, nat_le, Option, Some, None, take}
+use Rattle.std.specs.Prelude.{◌≡◌, ℕ, suc, ◌-◌, ◌*◌, ◌%◌, ◌==◌, ◌&&◌, Bool, true, false, if◌then◌else◌, List, [], ◌∷◌, map, length, nat_lt, nat_le, Option, Some, None, take}
 use Rattle.std.specs.List.{filter_map}
 use Rattle.qz_circ.specs.declared.binding.Binding.{Binding}
+use Rattle.qz_circ.specs.declared.circuit.Expr.{Expr}
+use Rattle.qz_circ.specs.declared.circuit.Expr.TheVariants.{Const}
 use Rattle.qz_circ.specs.declared.circuit.Op.{Op}
 use Rattle.qz_circ.specs.declared.circuit.Op.TheVariants.{H, X, Cx, Rz}
 use Rattle.qz_circ.specs.declared.circuit.Inst.{Inst}
@@ -10,12 +12,17 @@ use Rattle.qz_circ.specs.Circuit.{Circuit}
 use Rattle.qz_circ.specs.ProgramCircuits.{ProgramCircuit}
 use Rattle.qz_circ.specs.Places.{PlaceParts, place_at, match_at, rising_lists}
 
--- the gates are of one kind
+-- the angle may have this value: where it is a number, it is this one
+abbrev pub may_have : Expr → ℕ → Bool
+may_have (Const t) k = 64 * t % 512 == k
+may_have e k = true
+
+-- the gates are of one kind, and the angle of a rotation may be that of the other
 abbrev pub is_alike : Op → Inst → Bool
 is_alike (H t) (ProgramH w) = true
 is_alike (X t) (ProgramX w) = true
 is_alike (Cx c t) (ProgramCx v w) = true
-is_alike (Rz t e) (ProgramRz w k) = true
+is_alike (Rz t e) (ProgramRz w k) = may_have e k
 is_alike f g = false
 
 -- the places that begin at this position

@@ -3,12 +3,14 @@
 
 mod bind;
 mod gather;
+mod kinds;
 mod neighbours;
 mod place;
 mod start;
 mod usable;
 mod walk;
 
+pub use kinds::Kinds;
 pub use neighbours::{Link, Neighbours};
 pub use place::Place;
 pub use start::places_of;

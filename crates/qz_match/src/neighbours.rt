@@ -1,12 +1,14 @@
 //! For each gate of a program the nearest gates before and behind it on its qubits.
 ghost use Rattle.std.specs.Prelude.{◌≡◌, ℕ, ◌+◌, ◌<◌, ◌≤◌, ◌^◌, [], length, Option, Some, None, IfOk, OnOk, if◌then◌else◌};
-ghost use Rattle.std.specs.List.{AllByRecursion, slice_get};
+ghost use Rattle.std.specs.List.{AllByRecursion, slice_get, list_any};
 ghost use Rattle.qz_circ.specs.ProgramCircuits.{IsProgramGate};
 ghost use Rattle.qz_circ.specs.Gathering.{qubits_of, is_on};
 ghost use Rattle.qz_circ.specs.Instances.{slot};
-ghost use Rattle.qz_match.specs.Neighbours.{AreLinksOf, FindsPrevious, FindsNext, beside};
+ghost use Rattle.qz_match.specs.Kinds.{is_lacked};
+ghost use Rattle.qz_match.specs.Neighbours.{AreLinksOf, AreNeighboursOf, FindsPrevious, FindsNext, beside};
 
-use qz_circ::{Inst, Memory};
+use crate::kinds::Kinds;
+use qz_circ::{Inst, Memory, Op};
 use std::alloc::Global;
 use std::marker::Model;
 
@@ -19,51 +21,53 @@ pub struct Link {
     pub next: [Option<u16>; 2],
 }
 
-/// The links of all gates of a program. They are made once for a program and serve all rules.
+/// The links of all gates of a program, and the kinds of its gates. They are made once for a program and serve all rules.
 #[derive(Drop)]
 pub struct Neighbours {
     links: Vec<Link>,
+    kinds: Kinds,
 }
 
 impl Model for Neighbours {
-    ghost use Rattle.std.specs.Prelude.{List};
-    ghost use Rattle.qz_match.specs.declared.neighbours.Link.{Link};
+    ghost use Rattle.qz_match.specs.Neighbours.{LinksAndKinds};
 
-    ghost Value = { List Link };
+    ghost Value = { LinksAndKinds };
 
-    ghost view = { λ n. n.links.items };
+    ghost view = { λ n. record { links = n.links.items; kinds = n.kinds } };
 }
 
 impl Neighbours {
-    /// The links of a program of at most 20,004 gates on 64 qubits.
+    /// The links and kinds of a program of at most 20,004 gates on 64 qubits.
     pub fn of(alloc: Global, c: &[Inst]) -> Result<Neighbours, Memory>
         requires lawful { AllByRecursion (IsProgramGate 64) c.now }
         requires short { length c.now ≤ 20004 }
-        ensures { IfOk result (λ n. AreLinksOf c.now n) }
+        ensures { IfOk result (λ n. AreNeighboursOf c.now n) }
     {
         let mut neighbours = Neighbours {
             links: Vec::new(alloc),
+            kinds: Kinds::none(),
         };
         neighbours.renew(c)?;
         Ok(neighbours)
     }
 
-    /// The links of another program, in the memory of these. After an error they are of no program.
+    /// The links and kinds of another program, in the memory of these. After an error they are of no program.
     pub fn renew(&mut self, c: &[Inst]) -> Result<(), Memory>
         requires lawful { AllByRecursion (IsProgramGate 64) c.now }
         requires short { length c.now ≤ 20004 }
-        ensures { OnOk result (AreLinksOf c.now self.new) }
+        ensures { OnOk result (AreNeighboursOf c.now self.new) }
     {
         self.links.clear();
         add_previous(&mut self.links, c)?;
         set_next(self.links.as_mut_slice(), c);
+        self.kinds = Kinds::of(c);
         Ok(())
     }
 
     // Where the link of the gate at p on one of its operands leads.
     pub(crate) fn beside(&self, p: usize, operand: usize, forward: bool) -> Option<usize>
         requires { operand < 2 }
-        ensures { result ≡ beside self.now p operand forward }
+        ensures { result ≡ beside self.now.links p operand forward }
     {
         if p >= self.links.len() {
             return None;
@@ -74,6 +78,13 @@ impl Neighbours {
         } else {
             wide(link.previous[operand])
         }
+    }
+
+    // Some gate of a left side is of none of the kinds.
+    pub(crate) fn lack_some(&self, left: &[Op]) -> bool
+        ensures { result ≡ list_any (is_lacked self.now.kinds) left.now }
+    {
+        self.kinds.lack_some(left)
     }
 }
 

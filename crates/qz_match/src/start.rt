@@ -4,10 +4,10 @@ ghost use Rattle.std.specs.List.{AllByRecursion, flat_map};
 ghost use Rattle.std.specs.Option.{option_to_list};
 ghost use Rattle.qz_circ.specs.Circuit.{ActsBelow, HasBelow, IsOn, below};
 ghost use Rattle.qz_circ.specs.ProgramCircuits.{IsProgramGate};
-ghost use Rattle.qz_circ.specs.Places.{bind_gate, bind_angle, nothing_bound, all_places, places};
-ghost use Rattle.qz_match.specs.Neighbours.{AreLinksOf};
+ghost use Rattle.qz_circ.specs.Places.{all_places, places};
+ghost use Rattle.qz_match.specs.Neighbours.{AreLinksOf, AreNeighboursOf};
 ghost use Rattle.qz_match.specs.Walks.{IsWalk};
-ghost use Rattle.qz_match.specs.Starts.{is_alike, rises, tested, starting, AreOnly};
+ghost use Rattle.qz_match.specs.Starts.{may_have, is_alike, rises, tested, starting, AreOnly};
 
 use crate::bind::bound_at;
 use crate::gather::gather_at;
@@ -17,10 +17,10 @@ use crate::walk::Walk;
 use qz_circ::{Expr, Inst, Memory, Op};
 use std::alloc::Global;
 
-// The angle of a first rotation may have the value k.
+// The angle may have the value k.
 #[inline(always)]
 fn may_have(e: Expr, k: u16) -> bool
-    ensures { result ≡ false → bind_angle nothing_bound.params e k ≡ None }
+    ensures { result ≡ may_have e k }
 {
     match e {
         Expr::Const(t) => 64 * u16::from(t) % 512 == k,
@@ -28,25 +28,14 @@ fn may_have(e: Expr, k: u16) -> bool
     }
 }
 
-// A left side that begins with the gate f may have g as its first gate.
+// The gates are of one kind, and the angle of a rotation may be that of the other.
 #[inline(always)]
-fn may_begin(f: Op, g: Inst) -> bool
-    ensures { result ≡ false → bind_gate nothing_bound f g ≡ None }
-{
-    match (f, g) {
-        (Op::H(_), Inst::H(_)) | (Op::X(_), Inst::X(_)) | (Op::Cx(_, _), Inst::Cx(_, _)) => true,
-        (Op::Rz(_, e), Inst::Rz(_, k)) => may_have(e, k),
-        _ => false,
-    }
-}
-
-// The gates are of one kind.
 fn are_alike(f: Op, g: Inst) -> bool
     ensures { result ≡ is_alike f g }
 {
     match (f, g) {
-        (Op::H(_), Inst::H(_)) | (Op::X(_), Inst::X(_)) => true,
-        (Op::Cx(_, _), Inst::Cx(_, _)) | (Op::Rz(_, _), Inst::Rz(_, _)) => true,
+        (Op::H(_), Inst::H(_)) | (Op::X(_), Inst::X(_)) | (Op::Cx(_, _), Inst::Cx(_, _)) => true,
+        (Op::Rz(_, e), Inst::Rz(_, k)) => may_have(e, k),
         _ => false,
     }
 }
@@ -64,7 +53,7 @@ fn candidate(
     requires on { IsOn 3 3 left.now }
     requires lawful { AllByRecursion (IsProgramGate 64) c.now }
     requires walk { IsWalk left.now walk.now }
-    requires links { AreLinksOf c.now neighbours.now }
+    requires links { AreLinksOf c.now neighbours.now.links }
     requires within { p < length c.now }
     ensures { AreOnly left.now c.now p result }
 {
@@ -133,7 +122,7 @@ fn place_from(
     requires on { IsOn 3 3 left.now }
     requires lawful { AllByRecursion (IsProgramGate 64) c.now }
     requires walk { IsWalk left.now walk.now }
-    requires links { AreLinksOf c.now neighbours.now }
+    requires links { AreLinksOf c.now neighbours.now.links }
     requires within { p < length c.now }
     ensures { option_to_list result ≡ starting left.now c.now p }
 {
@@ -157,11 +146,11 @@ fn add_from(
     requires on { IsOn 3 3 left.now }
     requires lawful { AllByRecursion (IsProgramGate 64) c.now }
     requires walk { IsWalk left.now walk.now }
-    requires links { AreLinksOf c.now neighbours.now }
+    requires links { AreLinksOf c.now neighbours.now.links }
     requires within { p < length c.now }
     ensures { OnOk result (found.new.items ≡ found.old.items ++ starting left.now c.now p) }
 {
-    if !may_begin(left[0], c[p]) {
+    if !are_alike(left[0], c[p]) {
         return Ok(());
     }
     match place_from(left, c, walk, neighbours, p) {
@@ -184,9 +173,12 @@ pub fn places_of(
     requires on { IsOn 3 3 left.now }
     requires lawful { AllByRecursion (IsProgramGate 64) c.now }
     requires walk { IsWalk left.now walk.now }
-    requires links { AreLinksOf c.now neighbours.now }
+    requires links { AreNeighboursOf c.now neighbours.now }
     ensures { IfOk result (λ found. found.items ≡ all_places left.now c.now) }
 {
+    if neighbours.lack_some(left) {
+        return Ok(Vec::new(alloc));
+    }
     let mut found = Vec::new(alloc);
     for p in 0..c.len() {
         add_from(&mut found, left, c, walk, neighbours, p)?;

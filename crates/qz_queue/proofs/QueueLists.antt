@@ -1,12 +1,13 @@
 -- The lists of queues.
-use Rattle.std.proofs.Common.{◌≡◌, ◌<◌, ◌≤◌, ℕ, zero, suc, ◌-◌, inl, inr, Bool, true, false, List, [], ◌∷◌, ◌++◌, length, take, drop, get_or, ltb, min, Vec, vec_len, vec_capacity, Contains, append_assoc, append-nil, refl, sym, ap, subst, ◌∙◌, Less, Equal, Greater, arith}
+use Rattle.std.proofs.Common.{◌≡◌, ◌<◌, ◌≤◌, ℕ, zero, suc, ◌-◌, inl, inr, Bool, true, false, List, [], ◌∷◌, ◌++◌, ◌↔◌, IsTrue, length, take, drop, get_or, ltb, ◌==◌, min, Vec, vec_len, vec_capacity, Contains, append_assoc, append-nil, refl, sym, ap, subst, ◌∙◌, Less, Equal, Greater, arith}
 use Rattle.std.specs.declared.cmp.Ordering.{Ordering}
-use Rattle.std.specs.Ordering.{is_eq, is_lt, eq_by_cmp}
+use Rattle.std.specs.Ordering.{is_eq, is_lt, eq_by_cmp, ordering_reverse}
 use Rattle.std.specs.List.{insert}
 use Rattle.std.specs.BTreeSet.{insert_key}
 use Rattle.std.proofs.lemmas.List.{take_all, length-map, take-map, take_min, length-drop}
 use Rattle.std.proofs.lemmas.List.Sums.{count_by-le-length}
 use Rattle.std.proofs.lemmas.Map.Views.{list_any-from_Contains, Contains-from_any}
+use Rattle.std.proofs.lemmas.Bool.{eqb-true, eq-eqb}
 use Rattle.std.proofs.lemmas.Cmp.{eq_by_cmp_equiv}
 use Rattle.qz_circ.specs.declared.circuit.Inst.{Inst}
 use Rattle.qz_circ.specs.ProgramCircuits.{ProgramCircuit, program_cmp}
@@ -111,6 +112,26 @@ there_past cs c i h e l = among_past program_cmp_total cs c (strict_circuits cs 
 pub place_below : (cs : List ProgramCircuit) (c : ProgramCircuit) (m : ℕ) → AreOrdered cs → m < length cs → is_lt (program_cmp (get_or cs m []) c) ≡ ltb m (place_of cs c)
 place_below cs c m h l = place_tells program_cmp_total cs c m [] (strict_circuits cs h) l
 
+-- whether the circuit is among them, where so many are before it
+abbrev pub IsFound : List ProgramCircuit → ProgramCircuit → ℕ → Bool → Type 0
+IsFound cs c high found = place_of cs c ≡ high → found ≡ is_among cs c
+
+pub found_none : (cs : List ProgramCircuit) (c : ProgramCircuit) (n : ℕ) → AreOrdered cs → n ≡ length cs → IsFound cs c n false
+found_none cs c n h e = λ here. sym (there_past cs c n h (sym here) (omega arith))
+
+same_backwards : (r : Ordering) → is_eq (ordering_reverse r) ≡ is_eq r
+same_backwards Less = refl
+same_backwards Equal = refl
+same_backwards Greater = refl
+
+pub found_at : (cs : List ProgramCircuit) (c : ProgramCircuit) (m : ℕ) (r : Ordering) (found : Bool) → AreOrdered cs → m < length cs → r ≡ program_cmp (get_or cs m []) c → found ≡ is_eq r → IsFound cs c m found
+found_at cs c m r found h l e f = λ here.
+    f ∙ sym (same_backwards r) ∙ ap (λ s. is_eq (ordering_reverse s)) e ∙ sym (ap is_eq (program_cmp_total.antisymm c (get_or cs m [])))
+    ∙ sym (there_at cs c m h (sym here) l)
+
+pub found_there : (cs : List ProgramCircuit) (c : ProgramCircuit) (low high : ℕ) (found : Bool) → low ≤ place_of cs c → place_of cs c ≤ high → high ≤ low → IsFound cs c high found → found ≡ is_among cs c
+found_there cs c low high found from below over h = h (omega arith)
+
 circuits_insert : {A : Type 0} (i : ℕ) (vs : List (Vec Inst A)) (v : Vec Inst A) → circuits (insert vs i v) ≡ insert (circuits vs) i v.items
 circuits_insert zero vs v = refl
 circuits_insert (suc i) [] v = refl
@@ -123,6 +144,23 @@ same_list q cs e = λ i. record { cap = q.cap; list = sym e i }
 pub accepted : (q : QueueList) (c : ProgramCircuit) → is_among q.list c ≡ false → place_of q.list c < q.cap → IsRefused q c → ⊥
 accepted q c missing early (inl there) = let h = contains_among q.list c there in cc
 accepted q c missing early (inr late) = omega arith
+
+-- a queue refuses a circuit that is there
+pub there_refused : (q : QueueList) (c : ProgramCircuit) (found : Bool) → found ≡ is_among q.list c → found ≡ true → IsTrue found ↔ IsRefused q c
+there_refused q c found e h = (λ f. inl (among_contains q.list c (sym e ∙ h)), λ refused. h)
+
+-- and any other one where as many as it holds are before that
+pub late_refused : (q : QueueList) (c : ProgramCircuit) (n : ℕ) → firsts q.cap q.list ≡ q.list → n ≡ place_of q.list c → is_among q.list c ≡ false → IsTrue (n == q.cap) ↔ IsRefused q c
+late_refused q c n h at missing = (forth, back)
+  where
+    forth : IsTrue (n == q.cap) → IsRefused q c
+    forth e = let same : n ≡ q.cap = eqb-true n q.cap e in inr (omega (arith, at, same))
+
+    back : IsRefused q c → IsTrue (n == q.cap)
+    back (inl there) = let e = contains_among q.list c there in cc
+    back (inr late) =
+        let few = count_by-le-length (λ d. is_lt (program_cmp d c)) q.list in
+        eq-eqb n q.cap (omega (arith, at, late, few, queue_few q.cap q.list h))
 
 none_of : (n : ℕ) → take {A = ProgramCircuit} n [] ≡ []
 none_of zero = refl

@@ -39,7 +39,8 @@ fn compare_gates(a: &[Inst], c: &[Inst], from: usize) -> (Ordering, usize)
     (Ordering::Equal, k)
 }
 
-// The next number to look at, from low on and below high: the last of all at first, and then one in the middle.
+// The next number to look at, from low on and below high: the last of all at first, then the first of all, and from then on one
+// in the middle. So there are soon circuits on both sides, and what they have alike isn't compared again.
 fn probe(low: usize, high: usize, count: usize) -> usize
     requires { low < high }
     ensures from { low ≤ result }
@@ -47,6 +48,8 @@ fn probe(low: usize, high: usize, count: usize) -> usize
 {
     if high == count {
         high - 1
+    } else if low == 0 {
+        0
     } else {
         low + (high - low) / 2
     }
@@ -57,16 +60,18 @@ fn is_equal(list: &[Vec<Inst>], i: usize, c: &[Inst]) -> bool
     requires { i < length list.now }
     ensures { result ≡ eq_by_cmp program_cmp c.now (slice_index_or (circuits list.now) i []) }
 {
-    prec_insts(c, &list[i]).is_eq()
+    compare_gates(c, &list[i], 0).0.is_eq()
 }
 
-// How many of some circuits that are different and in order are before another one. What is known to be the same as in the
-// nearest ones on both sides is the same in those between, so that it isn't compared again.
-pub(crate) fn place(list: &[Vec<Inst>], c: &[Inst]) -> usize
+// How many of some circuits that are different and in order are before another one, and whether it is among them. What is known
+// to be the same as in the nearest ones on both sides is the same in those between, so that it isn't compared again.
+pub(crate) fn find(list: &[Vec<Inst>], c: &[Inst]) -> (usize, bool)
     requires { AreOrdered (circuits list.now) }
-    ensures place { result ≡ place_of (circuits list.now) c.now }
-    ensures bound { result ≤ length list.now }
+    ensures place { result.0 ≡ place_of (circuits list.now) c.now }
+    ensures bound { result.0 ≤ length list.now }
+    ensures there { result.1 ≡ is_among (circuits list.now) c.now }
 {
+    let mut found = false;
     let mut low = 0;
     let mut high = list.len();
     let mut low_same = 0;
@@ -80,9 +85,19 @@ pub(crate) fn place(list: &[Vec<Inst>], c: &[Inst]) -> usize
         } else {
             high = middle;
             high_same = same;
+            found = order.is_eq();
         }
     }
-    low
+    (low, found)
+}
+
+// How many of them are before another one.
+pub(crate) fn place(list: &[Vec<Inst>], c: &[Inst]) -> usize
+    requires { AreOrdered (circuits list.now) }
+    ensures place { result ≡ place_of (circuits list.now) c.now }
+    ensures bound { result ≤ length list.now }
+{
+    find(list, c).0
 }
 
 // Whether a circuit is among some that are different and in order, where so many of them are before it.

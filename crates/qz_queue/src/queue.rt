@@ -6,7 +6,7 @@ ghost use Rattle.qz_circ.specs.Queue.{IsQueue, IsRefused, firsts};
 ghost use Rattle.qz_circ.specs.Search.{is_among};
 ghost use Rattle.qz_queue.specs.Circuits.{circuits};
 
-use crate::place::{is_there, place};
+use crate::place::{find, is_there, place};
 use qz_circ::{Inst, Memory};
 use std::alloc::Global;
 use std::marker::Model;
@@ -149,6 +149,16 @@ impl Queue {
     {
         let place = place(&self.list, c);
         is_there(&self.list, place, c)
+    }
+
+    /// Whether it refuses this circuit: the circuit is there, or as many earlier ones are there as the queue holds at most. To
+    /// offer it would change nothing.
+    pub fn refuses(&self, c: &[Inst]) -> bool
+        ensures exact { IsTrue result ↔ IsRefused self.now c.now }
+        ensures same { IsTrue result → firsts self.now.cap (c.now ∷ self.now.list) ≡ self.now.list }
+    {
+        let (place, found) = find(&self.list, c);
+        found || place == self.cap
     }
 
     /// Whether as many circuits of less than this cost are there as the queue holds at most, so that it refuses each circuit of

@@ -6,7 +6,7 @@ ghost use Rattle.qz_circ.specs.Places.{is_connected, places, all_places};
 ghost use Rattle.qz_circ.specs.ProgramCircuits.{ProgramCircuit, IsProgramGate, cost};
 ghost use Rattle.qz_circ.specs.Queue.{IsQueue};
 ghost use Rattle.qz_circ.specs.Replacement.{replaced, numbered, children_by, children_in, children};
-ghost use Rattle.qz_match.specs.Neighbours.{AreLinksOf};
+ghost use Rattle.qz_match.specs.Neighbours.{AreNeighboursOf};
 ghost use Rattle.qz_search.specs.Offers.{is_new, offered_to};
 ghost use Rattle.qz_search.specs.PreparedRules.{rule_circuits, AreRuleSides, children_from, IsLeftSide};
 
@@ -129,7 +129,7 @@ fn offer_side(
     requires lawful { IsQueue queue.old }
     requires gates { AllByRecursion (IsProgramGate 64) c.now }
     requires short { length c.now ≤ 20004 }
-    requires links { AreLinksOf c.now neighbours.now }
+    requires links { AreNeighboursOf c.now neighbours.now }
     requires fit { AreRuleSides (rule_circuits members.now) }
     requires side { IsLeftSide (rule_circuits members.now) side.now }
     ensures { OnOk result (queue.new ≡ offered_to queue.old (filter (is_new seen.now most) (children_from (rule_circuits members.now) side.now c.now))) }
@@ -166,7 +166,7 @@ fn offer_class(
     requires lawful { IsQueue queue.old }
     requires gates { AllByRecursion (IsProgramGate 64) c.now }
     requires short { length c.now ≤ 20004 }
-    requires links { AreLinksOf c.now neighbours.now }
+    requires links { AreNeighboursOf c.now neighbours.now }
     ensures { OnOk result (queue.new ≡ offered_to queue.old (filter (is_new seen.now most) (children_in class.now c.now))) }
 {
     let members = class.members();

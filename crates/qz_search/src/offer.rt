@@ -22,11 +22,14 @@ fn is_offered(seen: &Seen, most: u64, c: &[Inst]) -> bool
     c.len() as u64 <= most && !seen.contains(c)
 }
 
-// Offers a circuit to the queue where it is new.
+// Offers a circuit to the queue where it is new. Most are refused, so this is tested first.
 pub(crate) fn offer_child(seen: &Seen, most: u64, c: Vec<Inst>, queue: &mut Queue)
     requires { IsQueue queue.old }
     ensures { queue.new ≡ offered_to queue.old (filter (is_new seen.now most) (c.items ∷ [])) }
 {
+    if queue.refuses(&c) {
+        return;
+    }
     if is_offered(seen, most, &c) {
         queue.offer(c);
     }

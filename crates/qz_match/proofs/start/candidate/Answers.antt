@@ -25,11 +25,11 @@ beside-requires c = (steps_small c.args.left.now c.steps-steps.result.now (subst
 pub returns-in_err-next : goal.returns-in_err-next
 returns-in_err-next c =
     subst (AreOnly c.args.left.now c.args.c.now c.args.p) (sym c.from_residual.ensures)
-    (walk_stops c.args.left.now c.args.c.now c.args.p c.steps-steps.result.now c.args.neighbours.now c.loop-step.step-index c.loop-step.found c.requires.short c.requires.on c.requires.lawful (subst (IsWalk c.args.left.now) (sym c.steps-steps.ensures) c.requires.walk) c.requires.links c.loop-step.invariant (record { from = 0; operand = 0; forward = false; to = 0 }) c.loop-step-test.true (sym c.in_err-next.ensures))
+    (walk_stops c.args.left.now c.args.c.now c.args.p c.steps-steps.result.now c.args.neighbours.now.links c.loop-step.step-index c.loop-step.found c.requires.short c.requires.on c.requires.lawful (subst (IsWalk c.args.left.now) (sym c.steps-steps.ensures) c.requires.walk) c.requires.links c.loop-step.invariant (record { from = 0; operand = 0; forward = false; to = 0 }) c.loop-step-test.true (sym c.in_err-next.ensures))
 
 pub loop-step-preserved : goal.loop-step-preserved
 loop-step-preserved c =
-    walked_more c.args.left.now c.args.c.now c.args.p c.steps-steps.result.now c.args.neighbours.now c.loop-step.step-index c.loop-step.found c.requires.short c.requires.on c.requires.lawful (subst (IsWalk c.args.left.now) (sym c.steps-steps.ensures) c.requires.walk) c.requires.links c.loop-step.invariant (record { from = 0; operand = 0; forward = false; to = 0 }) c.loop-step-test.true c.in_ok-next.next (sym c.in_ok-next.ensures)
+    walked_more c.args.left.now c.args.c.now c.args.p c.steps-steps.result.now c.args.neighbours.now.links c.loop-step.step-index c.loop-step.found c.requires.short c.requires.on c.requires.lawful (subst (IsWalk c.args.left.now) (sym c.steps-steps.ensures) c.requires.walk) c.requires.links c.loop-step.invariant (record { from = 0; operand = 0; forward = false; to = 0 }) c.loop-step-test.true c.in_ok-next.next (sym c.in_ok-next.ensures)
 
 pub returns : goal.returns
 returns c =
@@ -37,7 +37,7 @@ returns c =
     walked_all c.args.left.now c.args.c.now c.args.p c.steps-steps.result.now c.loop-step.found c.loop-step.step-index c.requires.short c.requires.some c.requires.on c.requires.lawful (subst (IsWalk c.args.left.now) (sym c.steps-steps.ensures) c.requires.walk) (take_all c.loop-step.step-index c.steps-steps.result.now over) c.loop-step.invariant
 
 pub returns-then-next-c : goal.returns-then-next-c
-returns-then-next-c c = walk_leaves c.args.left.now c.args.c.now c.args.p c.steps-steps.result.now c.args.neighbours.now c.loop-step.step-index c.loop-step.found c.requires.short c.requires.on c.requires.lawful (subst (IsWalk c.args.left.now) (sym c.steps-steps.ensures) c.requires.walk) c.requires.links c.loop-step.invariant (record { from = 0; operand = 0; forward = false; to = 0 }) c.loop-step-test.true c.in_ok-next.next (sym c.in_ok-next.ensures) c.if-next-c.true
+returns-then-next-c c = walk_leaves c.args.left.now c.args.c.now c.args.p c.steps-steps.result.now c.args.neighbours.now.links c.loop-step.step-index c.loop-step.found c.requires.short c.requires.on c.requires.lawful (subst (IsWalk c.args.left.now) (sym c.steps-steps.ensures) c.requires.walk) c.requires.links c.loop-step.invariant (record { from = 0; operand = 0; forward = false; to = 0 }) c.loop-step-test.true c.in_ok-next.next (sym c.in_ok-next.ensures) c.if-next-c.true
 
 pub bounds-left-step : goal.bounds-left-step
 bounds-left-step c = (steps_small c.args.left.now c.steps-steps.result.now (subst (IsWalk c.args.left.now) (sym c.steps-steps.ensures) c.requires.walk) c.requires.short (record { from = 0; operand = 0; forward = false; to = 0 }) c.loop-step.step-index c.loop-step-test.true).inside
@@ -47,4 +47,4 @@ offset_bounds-left-step c =
     let small = (steps_small c.args.left.now c.steps-steps.result.now (subst (IsWalk c.args.left.now) (sym c.steps-steps.ensures) c.requires.walk) c.requires.short (record { from = 0; operand = 0; forward = false; to = 0 }) c.loop-step.step-index c.loop-step-test.true).to in search rules
 
 pub returns-then-not-are_alike : goal.returns-then-not-are_alike
-returns-then-not-are_alike c = walk_differs c.args.left.now c.args.c.now c.args.p c.steps-steps.result.now c.args.neighbours.now c.loop-step.step-index c.loop-step.found c.requires.short c.requires.on c.requires.lawful (subst (IsWalk c.args.left.now) (sym c.steps-steps.ensures) c.requires.walk) c.requires.links c.loop-step.invariant (record { from = 0; operand = 0; forward = false; to = 0 }) c.loop-step-test.true c.in_ok-next.next (sym c.in_ok-next.ensures) (sym c.are_alike.ensures ∙ c.if-not-are_alike.true)
+returns-then-not-are_alike c = walk_differs c.args.left.now c.args.c.now c.args.p c.steps-steps.result.now c.args.neighbours.now.links c.loop-step.step-index c.loop-step.found c.requires.short c.requires.on c.requires.lawful (subst (IsWalk c.args.left.now) (sym c.steps-steps.ensures) c.requires.walk) c.requires.links c.loop-step.invariant (record { from = 0; operand = 0; forward = false; to = 0 }) c.loop-step-test.true c.in_ok-next.next (sym c.in_ok-next.ensures) (sym c.are_alike.ensures ∙ c.if-not-are_alike.true)
