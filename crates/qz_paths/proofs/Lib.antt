@@ -1,3 +1,4 @@
+pub mod Weights
 pub mod Equivalences
 pub mod Members
 pub mod Runs

@@ -27,7 +27,7 @@ use Rattle.qz_paths.proofs.Congruence.{Alike, alike_as, alike_of, same_of, rule_
 use Rattle.qz_subst.proofs.Split.{AreDifferent}
 use Rattle.qz_subst.proofs.Placed.{placed, IsWithin, alike_placed}
 use Rattle.qz_subst.proofs.Turns.{bind, bind_proper, bind_plus, bind_turns}
-use Rattle.qz_subst.proofs.Weights.{all_moved}
+use Rattle.qz_paths.proofs.Weights.{all_moved}
 use Rattle.qz_subst.proofs.MovedWays.{IsChange, moved_along, moved_root2, shifted_moved}
 use Rattle.qz_subst.proofs.InstanceGates.{as_bound, GoesBelow, bound_gates, bound_within, instance_gates, instance_halves, instance_run}
 

@@ -1,6 +1,5 @@
 pub mod Split
 pub mod Placed
-pub mod Weights
 pub mod Turns
 pub mod MovedWays
 pub mod InstanceGates

@@ -13,7 +13,7 @@ use Rattle.qz_circ.proofs.Totals.{AreProper-append, AreProper-products, count-ap
 use Rattle.qz_circ.proofs.GateSteps.{Kind, mix, flip, flip_where, turn, Gate}
 use Rattle.qz_circ.proofs.Through.{gate_ways, leads, negates, turns_by}
 use Rattle.qz_circ.proofs.Roots.{Shifted}
-use Rattle.qz_subst.proofs.Weights.{CountNothing, moved, all_moved, moved_nothing}
+use Rattle.qz_paths.proofs.Weights.{CountNothing, moved, all_moved, moved_nothing}
 
 -- a change of exponents that goes over products and keeps whole turns
 pub record IsChange (s : Exponent → Exponent) : Type 0 where

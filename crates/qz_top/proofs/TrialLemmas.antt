@@ -8,7 +8,7 @@ use Rattle.qz_circ.specs.Circuit.{below, gates_of, angles}
 use Rattle.qz_circ.specs.Bounds.{refusal, gate_count, IsLawful}
 use Rattle.qz_circ.specs.ProgramCircuits.{IsProgramGate}
 use Rattle.qz_circ.proofs.RisingLists.{each_of_all, each-map}
-use Rattle.qz_top.specs.RandomWords.{word}
+use Rattle.qz_random.specs.RandomWords.{word}
 use Rattle.qz_top.specs.Trial.{controlled, gate_of_kind, trial_gate, trial_circuit, trial_limits}
 
 -- the limits of the rules are lawful

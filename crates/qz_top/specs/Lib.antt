@@ -8,7 +8,6 @@ pub mod Generate
 pub mod Inputs
 pub mod Tidy
 pub mod Optimise
-pub mod RandomWords
 pub mod Trial
 pub mod Run
 pub mod Optimised

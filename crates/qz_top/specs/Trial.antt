@@ -12,7 +12,7 @@ use Rattle.qz_circ.specs.Replacement.{children}
 use Rattle.qz_circ.specs.Search.{PlanNumbers, best_found}
 use Rattle.qz_top.specs.declared.status.Status.TheVariants.{Ok}
 use Rattle.qz_top.specs.Answer.{Answer}
-use Rattle.qz_top.specs.RandomWords.{word}
+use Rattle.qz_random.specs.RandomWords.{word}
 
 -- ---- the circuit
 

@@ -5,7 +5,6 @@ pub mod generate;
 mod inputs;
 mod optimise;
 mod pieces;
-mod random_words;
 pub mod run;
 pub mod status;
 pub mod telling;

@@ -9,16 +9,16 @@ ghost use Rattle.qz_circ.specs.Lines.{line};
 ghost use Rattle.qz_circ.specs.ProgramCircuits.{IsProgramGate};
 ghost use Rattle.qz_io.specs.Transfers.{Input};
 ghost use Rattle.qz_top.specs.Answer.{Storage, IsCalm, output_of, IsCarriedOut};
-ghost use Rattle.qz_top.specs.RandomWords.{generator_after};
+ghost use Rattle.qz_random.specs.RandomWords.{generator_after};
 ghost use Rattle.qz_top.specs.Status.{WritesNothing};
 ghost use Rattle.qz_top.specs.Trial.{controlled, gate_of_kind, trial_gate, trial_circuit, trial_limits, trial_plan, AreTrialClasses, IsTrialFound, summary, IsTrialText, Tries};
 
-use crate::random_words::{generator, next_word};
 use crate::status::Status;
 use crate::writing::write_text;
 use itoa::Buffer;
 use qz_circ::{Bounds, Classes, Inst, Memory};
 use qz_io::Sink;
+use qz_random::{generator, next_word};
 use qz_repgen::generate_one;
 use qz_rulefile::{Rules, print, read};
 use qz_search::{Plan, search};

@@ -1,6 +1,6 @@
 use Rattle.std.proofs.Common.{◌≡◌, ◌*◌, map}
 use Rattle.qz_circ.specs.Circuit.{below}
-use Rattle.qz_top.specs.RandomWords.{generator_after}
+use Rattle.qz_random.specs.RandomWords.{generator_after}
 use Rattle.qz_top.specs.Trial.{trial_gate}
 use Rattle.qz_top.proofs.trial.made.Given as goal
 

@@ -1,5 +1,5 @@
 use Rattle.std.proofs.Common.{◌≡◌, ◌*◌, ◌+◌, refl, arith, ap, ◌∙◌}
-use Rattle.qz_top.specs.RandomWords.{generator_after}
+use Rattle.qz_random.specs.RandomWords.{generator_after}
 use Rattle.qz_top.specs.Trial.{trial_gate}
 use Rattle.qz_top.proofs.trial.next_gate.Goals as goal
 

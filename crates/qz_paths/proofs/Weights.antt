@@ -103,7 +103,7 @@ count_is (p ∷ ps) x = let rest = count_is ps x in
     grouped a b c d = omega (arith, ints)
 
 -- half a circle twice
-opposite_twice : (e : Exponent) → IsExponent e → opposite (opposite e) ≡ e
+pub opposite_twice : (e : Exponent) → IsExponent e → opposite (opposite e) ≡ e
 opposite_twice e he = exponent_eq (opposite (opposite e)) e (omega arith) refl refl refl
 
 -- it is a weight
@@ -156,7 +156,7 @@ others_proper : (e : Exponent) (ps : List Path) → AreProper ps → AreProper (
 others_proper e ps hp = each_weaker (λ p. IsExponent p.exponent × (not (is_at e p) ≡ true)) (λ p. IsExponent p.exponent) (λ p h. h.0) (others e ps) (each-filter (λ p. IsExponent p.exponent) (λ p. not (is_at e p)) ps hp)
 
 -- ways that count nothing weigh nothing
-weigh_nothing : (h : Weight) → IsWeight h → (n : ℕ) (ps : List Path) → length ps ≤ n → AreProper ps → CountNothing ps → weigh h ps ≡ pos 0
+pub weigh_nothing : (h : Weight) → IsWeight h → (n : ℕ) (ps : List Path) → length ps ≤ n → AreProper ps → CountNothing ps → weigh h ps ≡ pos 0
 weigh_nothing h is n [] few hp none = refl
 weigh_nothing h is zero (p ∷ ps) few hp none = absurd (omega arith)
 weigh_nothing h is (suc n) (p ∷ ps) few hp none =

@@ -1,0 +1,15 @@
+pub mod Modular
+pub mod WayValues
+pub mod WeighedSums
+pub mod Bases
+pub mod Eighths
+pub mod Law
+pub mod Lists
+pub mod PlaceLemmas
+pub mod StepValues
+pub mod StandsLemmas
+pub mod ProbeTables
+pub mod Powers
+pub mod Worths
+pub mod SumLemmas
+pub mod ExtensionLemmas

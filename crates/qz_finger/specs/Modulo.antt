@@ -1,0 +1,41 @@
+-- Numbers modulo p = 2^64 - 2^32 + 1. No rule needs that p is a prime.
+use Rattle.std.specs.Prelude.{ℕ, zero, suc, ◌+◌, ◌*◌, ◌^◌, ℤ, pos, negsuc}
+
+-- p
+abbrev pub modulus : ℕ
+modulus = 18446744069414584321
+
+-- -1 modulo p
+abbrev pub minus_one : ℕ
+minus_one = 18446744069414584320
+
+-- the inverse of 2 modulo p
+abbrev pub half : ℕ
+half = 9223372034707292161
+
+-- the inverse of 7 modulo p
+abbrev pub seventh : ℕ
+seventh = 2635249152773512046
+
+-- 2^24 stands for ω = e^(iπ/4), since its fourth power 2^96 is -1 modulo p
+abbrev pub eighth : ℕ
+eighth = 16777216
+
+-- the inverse of 2^24 modulo p, which is 2^168
+abbrev pub inverse_eighth : ℕ
+inverse_eighth = 18446742969902956801
+
+-- the whole number as a natural one, where n stands for -1
+abbrev pub residue : ℕ → ℤ → ℕ
+residue n (pos k) = k
+residue n (negsuc k) = n * (k + 1)
+
+-- g to a whole power, where h is the inverse of g
+abbrev pub raise : ℕ → ℕ → ℤ → ℕ
+raise g h (pos k) = g ^ k
+raise g h (negsuc k) = h ^ (k + 1)
+
+-- the numbers f k for k below n, added up
+unfoldable pub sum_below : (ℕ → ℕ) → ℕ → ℕ
+sum_below f zero = 0
+sum_below f (suc n) = sum_below f n + f n

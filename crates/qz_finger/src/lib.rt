@@ -1,0 +1,17 @@
+//! Fingerprints of circuits: numbers below p = 2^64 - 2^32 + 1 that equivalent circuits share, for each seed of random weights.
+//! Different circuits may share one, too.
+#![tactic(auto)]
+
+mod actions;
+mod extensions;
+pub mod laws;
+mod modulo;
+mod probe;
+mod sums;
+mod tables;
+mod values;
+mod weigh;
+mod words;
+
+pub use extensions::Extensions;
+pub use probe::Probe;

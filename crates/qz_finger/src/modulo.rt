@@ -1,0 +1,48 @@
+//! Sums and products modulo p = 2^64 - 2^32 + 1.
+ghost use Rattle.std.specs.Prelude.{◌≡◌, ◌+◌, ◌*◌, ◌%◌, ◌<◌};
+ghost use Rattle.qz_finger.specs.Modulo.{modulus, minus_one};
+
+// p
+const P: u64 = 18446744069414584321;
+
+// The number modulo p. Since 2^64 is 2^32 - 1 and 2^96 is -1 modulo p, the upper half is folded into the lower one.
+pub(crate) fn reduce(x: u128) -> u64
+    ensures { result ≡ x % modulus }
+{
+    let low = x % 18446744073709551616;
+    let high = x / 18446744073709551616;
+    let middle = high % 4294967296;
+    let top = high / 4294967296;
+    let sum = low + middle * 4294967295 + (18446744069414584321 - top);
+    let folded = sum % 18446744073709551616 + sum / 18446744073709551616 * 4294967295;
+    if folded < 18446744069414584321 {
+        folded as u64
+    } else {
+        (folded - 18446744069414584321) as u64
+    }
+}
+
+// The product.
+pub(crate) fn multiply(a: u64, b: u64) -> u64
+    ensures { result ≡ a * b % modulus }
+{
+    reduce(a as u128 * b as u128)
+}
+
+// The sum of two numbers below p.
+pub(crate) fn add(a: u64, b: u64) -> u64
+    requires first { a < modulus }
+    requires second { b < modulus }
+    ensures { result ≡ (a + b) % modulus }
+{
+    if a < P - b { a + b } else { a - (P - b) }
+}
+
+// The difference b - a of two numbers below p.
+pub(crate) fn subtract(a: u64, b: u64) -> u64
+    requires first { a < modulus }
+    requires second { b < modulus }
+    ensures { result ≡ (minus_one * a + b) % modulus }
+{
+    if b < a { b + (P - a) } else { b - a }
+}
