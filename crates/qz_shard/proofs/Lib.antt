@@ -1,0 +1,8 @@
+pub mod Zipped
+pub mod Partitions
+pub mod Insertion
+pub mod Ranks
+pub mod Walk
+pub mod ClassParts
+pub mod HeldShards
+pub mod ShardSteps

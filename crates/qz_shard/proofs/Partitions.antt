@@ -1,0 +1,304 @@
+-- The classes of a journal by a relation that is reflexive, symmetric and transitive, and how they grow with it.
+use Rattle.std.proofs.Common.{◌≡◌, ℕ, zero, suc, ◌+◌, ◌-◌, ◌<◌, ◌≤◌, List, [], ◌∷◌, ◌++◌, length, get_or, set, ◌⊎◌, inl, inr, refl, sym, subst, ap, ◌∙◌, arith, length-append}
+use Rattle.std.specs.Prelude.{Contains}
+use Rattle.std.specs.List.{AllZip}
+use Rattle.std.specs.List.Sorted.{IsStrictlyIncreasing}
+use Rattle.std.proofs.lemmas.Bool.{cases_eq, cases_lt, cases_order}
+use Rattle.std.proofs.lemmas.List.{get_or_append_left, get_or_push, get_or_default, get_or-set_same, get_or-set_other, length-set}
+use Rattle.std.proofs.lemmas.List.Elements.{Contains-append_left, Contains-push, Contains-push_cases, Contains-get_or}
+use Rattle.std.proofs.lemmas.List.Kept.{AllPairs-from_increasing}
+use Rattle.std.proofs.lemmas.List.Quantifiers.{all_pairs_push}
+use Rattle.qz_circ.specs.Classes.{ListsExactly}
+use Rattle.qz_circ.proofs.ClassLaws.{lists_exactly_same}
+use Rattle.qz_shard.specs.Journals.{IsEarliest, IsRelatedEntry, AreClassesBy}
+use Rattle.qz_shard.specs.Held.{AddsMember}
+use Rattle.qz_shard.proofs.Zipped.{zip_length, zip_at, zip_by, zip_push, zip_weaker, zip_same, contains_or_not}
+
+-- at most one list has the classes of a journal
+pub classes_same : (R : ℕ → ℕ → Type 0) (journal : List ℕ) (k l : List (List ℕ)) → AreClassesBy R journal k → AreClassesBy R journal l → k ≡ l
+classes_same R journal k l hk hl =
+    let places = lists_exactly_same (IsEarliest R journal) hk.earliest hl.earliest hk.each_earliest hl.each_earliest in
+    zip_same (λ i c. ListsExactly (IsRelatedEntry R journal i) c) (λ i. lists_exactly_same (IsRelatedEntry R journal i)) hl.earliest k l (subst (λ is. AllZip (λ i class. ListsExactly (IsRelatedEntry R journal i) class) is k) places hk.each_class) hl.each_class
+
+-- a rising list with a greater number at its end
+pub increasing_push : (xs : List ℕ) (y : ℕ) → IsStrictlyIncreasing xs → ((x : ℕ) → Contains xs x → x < y) → IsStrictlyIncreasing (xs ++ y ∷ [])
+increasing_push xs y rising below k in_range =
+    all_pairs_push (λ a b. a < b) xs y (AllPairs-from_increasing xs rising) (λ i d within. below (get_or xs i d) (Contains-get_or xs i d within)) k (k + 1) 0 (omega arith) in_range
+
+-- a rising list of numbers below n has at most n
+pub rising_short : (xs : List ℕ) (n : ℕ) → IsStrictlyIncreasing xs → ((x : ℕ) → Contains xs x → x < n) → length xs ≤ n
+rising_short xs n rising below = elim (cases_eq (length xs) 0) [
+  | inl none ↦ omega arith
+  | inr some ↦
+      let last = length xs - 1 in
+      let least = at_least last (omega arith) in
+      let bounded = below (get_or xs last 0) (Contains-get_or xs last 0 (omega arith)) in
+      omega arith
+]
+  where
+    at_least : (k : ℕ) → k < length xs → k ≤ get_or xs k 0
+    at_least zero within = omega arith
+    at_least (suc k) within =
+        let before = at_least k (omega arith) in
+        let next : get_or xs k 0 < get_or xs (suc k) 0 = AllPairs-from_increasing xs rising k (suc k) 0 (omega arith) within in
+        omega arith
+
+-- there are no more classes than entries
+pub few_classes : (R : ℕ → ℕ → Type 0) (journal : List ℕ) (classes : List (List ℕ)) → AreClassesBy R journal classes → length classes ≤ length journal
+few_classes R journal classes are =
+    let size = zip_length (λ i c. ListsExactly (IsRelatedEntry R journal i) c) are.earliest classes are.each_class in
+    let short = rising_short are.earliest (length journal) are.each_earliest.rising (λ i has. ((are.each_earliest.exactly i).0 has).within) in
+    omega arith
+
+-- the only element of a list
+pub contains_one : (y x : ℕ) → Contains (y ∷ []) x → y ≡ x
+contains_one y x has = elim (Contains-push_cases [] y x has) [ inl none ↦ absurd (omega (arith, none.1)) | inr same ↦ same ]
+
+module _ (R : ℕ → ℕ → Type 0) (reflexive : (r : ℕ) → R r r) (symmetric : (r s : ℕ) → R r s → R s r) (transitive : (r s t : ℕ) → R r s → R s t → R r t) where
+  module _ (journal : List ℕ) (classes : List (List ℕ)) (are : AreClassesBy R journal classes) where
+    -- the entry at place i
+    abbrev entry : ℕ → ℕ
+    entry i = get_or journal i 0
+
+    -- the place of the earliest entry of class k
+    abbrev place : ℕ → ℕ
+    place k = get_or are.earliest k 0
+
+    -- class k
+    abbrev class : ℕ → List ℕ
+    class k = get_or classes k []
+
+    size : length are.earliest ≡ length classes
+    size = zip_length (λ i c. ListsExactly (IsRelatedEntry R journal i) c) are.earliest classes are.each_class
+
+    -- the entries of class k are those to which its earliest one is related
+    pub class_lists : (k : ℕ) → k < length classes → ListsExactly (IsRelatedEntry R journal (place k)) (class k)
+    class_lists k within = let same = size in zip_at (λ i c. ListsExactly (IsRelatedEntry R journal i) c) are.earliest classes k 0 [] are.each_class (omega arith)
+
+    place_earliest : (k : ℕ) → k < length classes → IsEarliest R journal (place k)
+    place_earliest k within = let same = size in (are.each_earliest.exactly (place k)).0 (Contains-get_or are.earliest k 0 (omega arith))
+
+    -- a member is an entry
+    pub member_entry : (k x : ℕ) → k < length classes → Contains (class k) x → Contains journal x
+    member_entry k x within has = (((class_lists k within).exactly x).0 has).0
+
+    -- the members of a class are related to each other
+    pub members_related : (k x y : ℕ) → k < length classes → Contains (class k) x → Contains (class k) y → R x y
+    members_related k x y within has_x has_y =
+        transitive x (entry (place k)) y (symmetric (entry (place k)) x (((class_lists k within).exactly x).0 has_x).1) (((class_lists k within).exactly y).0 has_y).1
+
+    -- what a member is related to is a member
+    pub related_member : (k x y : ℕ) → k < length classes → Contains (class k) x → Contains journal y → R x y → Contains (class k) y
+    related_member k x y within has_x has_y related =
+        ((class_lists k within).exactly y).1 (has_y, transitive (entry (place k)) x y (((class_lists k within).exactly x).0 has_x).1 related)
+
+    -- the earliest entry of a class is a member
+    pub earliest_member : (k : ℕ) → k < length classes → Contains (class k) (entry (place k))
+    earliest_member k within = ((class_lists k within).exactly (entry (place k))).1 (Contains-get_or journal (place k) 0 (place_earliest k within).within, reflexive (entry (place k)))
+
+    places_apart : (k l : ℕ) → k < l → l < length classes → R (entry (place k)) (entry (place l)) → ⊥
+    places_apart k l before within related =
+        let same = size in
+        let lower : place k < place l = AllPairs-from_increasing are.earliest are.each_earliest.rising k l 0 before (omega arith) in
+        (place_earliest l within).first (place k) lower related
+
+    -- members of two classes are not related
+    pub classes_apart : (k l x y : ℕ) → k < length classes → l < length classes → Contains (class k) x → Contains (class l) y → R x y → k ≡ l
+    classes_apart k l x y within_k within_l has_x has_y related = elim (cases_order k l) [
+      | inl same ↦ same
+      | inr (inl before) ↦ absurd (places_apart k l before within_l between)
+      | inr (inr after) ↦ absurd (places_apart l k after within_k (symmetric (entry (place k)) (entry (place l)) between))
+    ]
+      where
+        between : R (entry (place k)) (entry (place l))
+        between = transitive (entry (place k)) x (entry (place l)) (((class_lists k within_k).exactly x).0 has_x).1
+            (transitive x y (entry (place l)) related (symmetric (entry (place l)) y (((class_lists l within_l).exactly y).0 has_y).1))
+
+    -- some class has the number, or none has
+    abbrev HasClass : ℕ → Type 0
+    HasClass x = (k : ℕ) × (k < length classes) × Contains (class k) x
+
+    search_below : (n x : ℕ) → n ≤ length classes → HasClass x ⊎ ((k : ℕ) → k < n → Contains (class k) x → ⊥)
+    search_below zero x within = inr (λ k below has. absurd (omega arith))
+    search_below (suc n) x within = by (contains_or_not (class n) x) (search_below n x (omega arith))
+      where
+        by : Contains (class n) x ⊎ (Contains (class n) x → ⊥) → HasClass x ⊎ ((k : ℕ) → k < n → Contains (class k) x → ⊥) → HasClass x ⊎ ((k : ℕ) → k < suc n → Contains (class k) x → ⊥)
+        by (inl has) rest = inl (n, omega arith, has)
+        by (inr none) (inl found) = inl found
+        by (inr none) (inr others) = inr (λ k below has. elim (cases_eq k n) [
+          | inl same ↦ none (subst (λ j. Contains (class j) x) same has)
+          | inr apart ↦ others k (omega arith) has
+        ])
+
+    -- the entries before place n are in classes, and so is the one there
+    next_covered : (n : ℕ) → n < length journal → ((j : ℕ) → j < n → HasClass (entry j)) → HasClass (entry n)
+    next_covered n within earlier = by (search_below (length classes) (entry n) (omega arith))
+      where
+        by : HasClass (entry n) ⊎ ((k : ℕ) → k < length classes → Contains (class k) (entry n) → ⊥) → HasClass (entry n)
+        by (inl found) = found
+        by (inr none) =
+            let first : (j : ℕ) → j < n → R (entry j) (entry n) → ⊥ = λ j below related.
+            let there = earlier j below in
+            none there.0 there.1 (related_member there.0 (entry j) (entry n) there.1 there.2 (Contains-get_or journal n 0 within) related) in
+            let listed = (are.each_earliest.exactly n).1 (record { within = within; first = first }) in
+            let same = size in
+            let here : place listed.0 ≡ n = sym (get_or_default are.earliest listed.0 n 0 listed.1) ∙ listed.2 in
+            let inside : listed.0 < length classes = omega (arith, listed.1) in
+            absurd (none listed.0 inside (subst (λ i. Contains (class listed.0) (entry i)) here (earliest_member listed.0 inside)))
+
+    covered_below : (n : ℕ) → n ≤ length journal → (j : ℕ) → j < n → HasClass (entry j)
+    covered_below zero within j below = absurd (omega arith)
+    covered_below (suc n) within j below = elim (cases_eq j n) [
+      | inl same ↦ subst (λ i. HasClass (entry i)) (sym same) (next_covered n (omega arith) (covered_below n (omega arith)))
+      | inr apart ↦ covered_below n (omega arith) j (omega arith)
+    ]
+
+    -- each entry is in a class
+    pub covered : (x : ℕ) → Contains journal x → (k : ℕ) × (k < length classes) × Contains (class k) x
+    covered x has = subst HasClass (sym (get_or_default journal has.0 x 0 has.1) ∙ has.2) (covered_below (length journal) (omega arith) has.0 has.1)
+
+    -- ---- one more entry
+
+    -- the journal with r at its end
+    abbrev longer : ℕ → List ℕ
+    longer r = journal ++ r ∷ []
+
+    -- its entries
+    abbrev entry_of_longer : ℕ → ℕ → ℕ
+    entry_of_longer r i = get_or (longer r) i 0
+
+    old_entry : (r i : ℕ) → i < length journal → entry_of_longer r i ≡ entry i
+    old_entry r i within = get_or_append_left journal (r ∷ []) 0 i within
+
+    new_entry : (r : ℕ) → entry_of_longer r (length journal) ≡ r
+    new_entry r = get_or_push journal r 0 (length journal) refl
+
+    longer_by_one : (r : ℕ) → length (longer r) ≡ length journal + 1
+    longer_by_one r = length-append journal (r ∷ [])
+
+    -- an entry that was the earliest stays so
+    stays_earliest : (r i : ℕ) → IsEarliest R journal i → IsEarliest R (longer r) i
+    stays_earliest r i h = record {
+      within = omega (arith, longer_by_one r, h.within);
+      first = λ j below related. h.first j below (subst (λ x. R x (entry i)) (old_entry r j (omega (arith, h.within)))
+          (subst (λ x. R (entry_of_longer r j) x) (old_entry r i h.within) related));
+    }
+
+    -- an old entry that is the earliest was so
+    was_earliest : (r i : ℕ) → i < length journal → IsEarliest R (longer r) i → IsEarliest R journal i
+    was_earliest r i within h = record {
+      within = within;
+      first = λ j below related. h.first j below (subst (λ x. R x (entry_of_longer r i)) (sym (old_entry r j (omega arith)))
+          (subst (λ x. R (entry j) x) (sym (old_entry r i within)) related));
+    }
+
+    -- what lists the entries to which an old one is related lists those of the longer journal, where the new one isn't
+    still_lists : (r i : ℕ) (members : List ℕ) → i < length journal → (R (entry i) r → ⊥) → ListsExactly (IsRelatedEntry R journal i) members → ListsExactly (IsRelatedEntry R (longer r) i) members
+    still_lists r i members within none lists = record {
+      rising = lists.rising;
+      exactly = λ s. (
+        λ has. let old = (lists.exactly s).0 has in (Contains-append_left journal (r ∷ []) s old.0, subst (λ x. R x s) (sym (old_entry r i within)) old.1),
+        λ h. let related : R (entry i) s = subst (λ x. R x s) (old_entry r i within) h.1 in elim (Contains-push_cases journal r s h.0) [
+          | inl old ↦ (lists.exactly s).1 (old, related)
+          | inr same ↦ absurd (none (subst (R (entry i)) (sym same) related))
+        ],
+      );
+    }
+
+    -- with the new entry, where it is
+    lists_more : (r i : ℕ) (members new : List ℕ) → i < length journal → R (entry i) r → AddsMember r members new → ListsExactly (IsRelatedEntry R journal i) members → ListsExactly (IsRelatedEntry R (longer r) i) new
+    lists_more r i members new within related adds lists = record {
+      rising = adds.rising;
+      exactly = λ s. (
+        λ has. elim ((adds.exactly s).0 has) [
+          | inl before ↦ let old = (lists.exactly s).0 before in (Contains-append_left journal (r ∷ []) s old.0, subst (λ x. R x s) (sym (old_entry r i within)) old.1)
+          | inr same ↦ (subst (Contains (longer r)) (sym same) (Contains-push journal r), subst (λ x. R x s) (sym (old_entry r i within)) (subst (R (entry i)) (sym same) related))
+        ],
+        λ h. (adds.exactly s).1 (elim (Contains-push_cases journal r s h.0) [
+          | inl old ↦ inl ((lists.exactly s).1 (old, subst (λ x. R x s) (old_entry r i within) h.1))
+          | inr same ↦ inr (sym same)
+        ]),
+      );
+    }
+
+    -- where the new entry is related to a member of a class, it joins the class
+    pub joined : (k r x : ℕ) (new : List ℕ) → k < length classes → Contains (class k) x → R r x → AddsMember r (class k) new → AreClassesBy R (longer r) (set classes k new)
+    joined k r x new within has related adds = record {
+      earliest = are.earliest;
+      each_earliest = record {
+        rising = are.each_earliest.rising;
+        exactly = λ i. (
+          λ listed. stays_earliest r i ((are.each_earliest.exactly i).0 listed),
+          λ h. (are.each_earliest.exactly i).1 (elim (cases_lt i (length journal)) [
+            | inl old ↦ was_earliest r i old h
+            | inr last ↦ absurd (not_first i (omega (arith, h.within, longer_by_one r)) h)
+          ]),
+        );
+      };
+      each_class = zip_by (λ i c. ListsExactly (IsRelatedEntry R (longer r) i) c) are.earliest (set classes k new) 0 [] (size ∙ sym (length-set classes k new)) each;
+    }
+      where
+        -- the class's earliest entry is related to the new one
+        to_new : R (entry (place k)) r
+        to_new = transitive (entry (place k)) x r (((class_lists k within).exactly x).0 has).1 (symmetric r x related)
+
+        not_first : (i : ℕ) → i ≡ length journal → IsEarliest R (longer r) i → ⊥
+        not_first i at_end h =
+            let before = (place_earliest k within).within in
+            h.first (place k) (omega arith) (subst (λ y. R y (entry_of_longer r i)) (sym (old_entry r (place k) before)) (subst (R (entry (place k))) (sym (ap (entry_of_longer r) at_end ∙ new_entry r)) to_new))
+
+        each : (j : ℕ) → j < length are.earliest → ListsExactly (IsRelatedEntry R (longer r) (get_or are.earliest j 0)) (get_or (set classes k new) j [])
+        each j below = let same = size in let inside : j < length classes = omega (arith, same) in elim (cases_eq j k) [
+          | inl at ↦ subst (ListsExactly (IsRelatedEntry R (longer r) (place j))) (sym (ap (λ i. get_or (set classes k new) i []) at ∙ get_or-set_same classes k new [] within))
+              (subst (λ i. ListsExactly (IsRelatedEntry R (longer r) (place i)) new) (sym at)
+              (lists_more r (place k) (class k) new (place_earliest k within).within to_new adds (class_lists k within)))
+          | inr apart ↦ subst (ListsExactly (IsRelatedEntry R (longer r) (place j))) (sym (get_or-set_other classes k j new [] apart))
+              (still_lists r (place j) (class j) (place_earliest j inside).within
+              (λ there. apart (classes_apart j k (entry (place j)) (entry (place k)) inside within (earliest_member j inside) (earliest_member k within)
+              (transitive (entry (place j)) r (entry (place k)) there (symmetric (entry (place k)) r to_new))))
+              (class_lists j inside))
+        ]
+
+    -- where it is related to no entry, it has a class of its own at the end
+    pub opened : (r : ℕ) → ((x : ℕ) → Contains journal x → R r x → ⊥) → AreClassesBy R (longer r) (classes ++ (r ∷ []) ∷ [])
+    opened r none = record {
+      earliest = are.earliest ++ length journal ∷ [];
+      each_earliest = record {
+        rising = increasing_push are.earliest (length journal) are.each_earliest.rising (λ i listed. ((are.each_earliest.exactly i).0 listed).within);
+        exactly = λ i. (
+          λ listed. elim (Contains-push_cases are.earliest (length journal) i listed) [
+            | inl old ↦ stays_earliest r i ((are.each_earliest.exactly i).0 old)
+            | inr same ↦ subst (IsEarliest R (longer r)) same last
+          ],
+          λ h. elim (cases_lt i (length journal)) [
+            | inl old ↦ Contains-append_left are.earliest (length journal ∷ []) i ((are.each_earliest.exactly i).1 (was_earliest r i old h))
+            | inr at_end ↦ let here : length journal ≡ i = omega (arith, h.within, longer_by_one r) in subst (Contains (are.earliest ++ length journal ∷ [])) here (Contains-push are.earliest (length journal))
+          ],
+        );
+      };
+      each_class = zip_push (λ i c. ListsExactly (IsRelatedEntry R (longer r) i) c) are.earliest classes (length journal) (r ∷ [])
+          (zip_weaker (λ i c. ListsExactly (IsRelatedEntry R journal i) c) (λ i c. ListsExactly (IsRelatedEntry R (longer r) i) c) are.earliest classes
+          (λ i c listed lists. let at = (are.each_earliest.exactly i).0 listed in
+          still_lists r i c at.within (λ related. none (entry i) (Contains-get_or journal i 0 at.within) (symmetric (entry i) r related)) lists) are.each_class)
+          own;
+    }
+      where
+        last : IsEarliest R (longer r) (length journal)
+        last = record {
+          within = omega (arith, longer_by_one r);
+          first = λ j below related. none (entry j) (Contains-get_or journal j 0 below)
+              (symmetric (entry j) r (subst (λ x. R x r) (old_entry r j below) (subst (R (entry_of_longer r j)) (new_entry r) related)));
+        }
+
+        own : ListsExactly (IsRelatedEntry R (longer r) (length journal)) (r ∷ [])
+        own = record {
+          rising = λ k in_range. absurd (omega arith);
+          exactly = λ s. (
+            λ has. let same : r ≡ s = contains_one r s has in
+                (subst (Contains (longer r)) same (Contains-push journal r), subst (λ x. R x s) (sym (new_entry r)) (subst (R r) same (reflexive r))),
+            λ h. let related : R r s = subst (λ x. R x s) (new_entry r) h.1 in elim (Contains-push_cases journal r s h.0) [
+              | inl old ↦ absurd (none s old related)
+              | inr same ↦ subst (Contains (r ∷ [])) same (Contains-push [] r)
+            ],
+          );
+        }
