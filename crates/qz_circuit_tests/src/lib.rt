@@ -1,12 +1,12 @@
-//! Tests of circuits and their meaning, of classes, and of how programs are read and written.
+//! Tests of circuits and their order, of their sums and matrices, and of how they are put into classes.
 #![tactic(auto)]
 
-#[cfg(test)]
-mod angles;
 #[cfg(test)]
 mod circuits;
 #[cfg(test)]
 mod equivalence;
+#[cfg(test)]
+mod fingerprints;
 #[cfg(test)]
 mod generation;
 #[cfg(test)]
@@ -14,10 +14,6 @@ mod matrices;
 #[cfg(test)]
 mod orders;
 #[cfg(test)]
-mod programs;
-#[cfg(test)]
-mod reading;
+mod shards;
 #[cfg(test)]
 mod sums;
-#[cfg(test)]
-mod tokens;

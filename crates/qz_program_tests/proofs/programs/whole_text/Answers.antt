@@ -1,5 +1,5 @@
-use Rattle.qz_circuit_tests.proofs.SamplePrograms.{whole_is_valid}
-use Rattle.qz_circuit_tests.proofs.programs.whole_text.Goals as goal
+use Rattle.qz_program_tests.proofs.SamplePrograms.{whole_is_valid}
+use Rattle.qz_program_tests.proofs.programs.whole_text.Goals as goal
 
 pub write-requires : goal.write-requires
 write-requires c =

@@ -1,5 +1,5 @@
-use Rattle.qz_circuit_tests.proofs.SamplePrograms.{measured_is_valid}
-use Rattle.qz_circuit_tests.proofs.programs.measured.Goals as goal
+use Rattle.qz_program_tests.proofs.SamplePrograms.{measured_is_valid}
+use Rattle.qz_program_tests.proofs.programs.measured.Goals as goal
 
 pub returns : goal.returns
 returns c = λ gates few on.

@@ -1,4 +1,4 @@
-use Rattle.qz_circuit_tests.proofs.programs.measured_text.Goals as goal
+use Rattle.qz_program_tests.proofs.programs.measured_text.Goals as goal
 
 pub write-requires : goal.write-requires
 write-requires c =
