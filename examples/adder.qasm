@@ -1,0 +1,23 @@
+// a + b of two bits each, with a carry in and a carry out.
+OPENQASM 2.0;
+include "qelib1.inc";
+qreg in[1];
+qreg a[2];
+qreg b[2];
+qreg out[1];
+creg sum[2];
+cx a[0],b[0];
+cx a[0],in[0];
+ccx in[0],b[0],a[0];
+cx a[1],b[1];
+cx a[1],a[0];
+ccx a[0],b[1],a[1];
+cx a[1],out[0];
+ccx a[0],b[1],a[1];
+cx a[1],a[0];
+cx a[0],b[1];
+ccx in[0],b[0],a[0];
+cx a[0],in[0];
+cx in[0],b[0];
+barrier in,a,b,out;
+measure b -> sum;
