@@ -48,8 +48,9 @@ pub record IsReadWhole {A : Type 0} (limit : ℕ) (result : Result (Vec ℕ A) U
   pub at_end : OnOk result (IsAtEnd input.new)
   -- it is too long only where one byte past the limit was taken
   pub too_long : result ≡ Err unread.TooLong → TakesBytes input.old input.new (λ n. n ≡ limit + 1)
-  -- no answer takes more
+  -- no answer takes more, and no other one takes that byte
   pub taken : TakesBytes input.old input.new (λ n. n ≤ limit + 1)
+  pub within_limit : result ≢ Err unread.TooLong → TakesBytes input.old input.new (λ n. n ≤ limit)
   -- it fails only where the count of faults rose
   pub failed : result ≡ Err unread.Failed → Rose input.faults_before input.faults_after
   -- the count never falls

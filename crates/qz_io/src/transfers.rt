@@ -3,7 +3,7 @@ ghost use Rattle.std.specs.Prelude.{◌≡◌, ◌≢◌, ℕ, ◌<◌, ◌≤�
 ghost use Rattle.std.specs.Io.KnownBytes.{append_known};
 ghost use Rattle.qz_io.specs.Counts.{Rose};
 ghost use Rattle.qz_io.specs.Files.{Files};
-ghost use Rattle.qz_io.specs.Told.{HasPart};
+ghost use Rattle.qz_io.specs.Told.{HasProperPart};
 ghost use Rattle.qz_io.specs.Transfers.{input_of, IsRead, IsReadWhole};
 
 use crate::fault::IoFault;
@@ -12,10 +12,10 @@ use crate::sink::Sink;
 use crate::source::Source;
 use std::alloc::Global;
 
-/// Writes the whole text. After an error a prefix of it is written.
+/// Writes the whole text. After an error a prefix of it is written, which is not the whole text.
 pub fn deliver<O: Sink>(text: &[u8], out: &mut O) -> Result<(), IoFault>
     ensures whole { OnOk result (O.written out.new ≡ append_known (O.written out.old) text.now) }
-    ensures part { OnErr result (HasPart (O.written out.old) text.now (O.written out.new)) }
+    ensures part { OnErr result (HasProperPart (O.written out.old) text.now (O.written out.new)) }
     ensures failed { result ≡ Err IoFault.Failed → Rose (O.faults out.old) (O.faults out.new) }
     ensures memory { result ≡ Err IoFault.Memory → Rose (O.wants out.old) (O.wants out.new) }
     ensures faults { O.faults out.old ≤ O.faults out.new }

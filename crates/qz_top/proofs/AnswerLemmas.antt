@@ -4,7 +4,7 @@ use Rattle.std.specs.Prelude.{◌⊎◌, MatchResult}
 use Rattle.std.specs.Io.KnownBytes.{append_known}
 use Rattle.qz_io.specs.Counts.{Rose}
 use Rattle.qz_io.specs.Files.{Files}
-use Rattle.qz_io.specs.Told.{HasPart}
+use Rattle.qz_io.specs.Told.{HasProperPart}
 use Rattle.qz_io.specs.Transfers.{Input}
 use Rattle.qz_top.specs.declared.status.Status.{Status}
 use Rattle.qz_top.specs.declared.status.Status.TheVariants as status
@@ -103,7 +103,7 @@ still_not_rose (inr last) = absurd (omega (arith, last))
 
 -- a text that is to be written is handed to the output
 pub carried_by_text : (Answers : Given → Answer → Type 0) (text : List ℕ) (s : Status) (outside : Outside) → IsToBeWritten Answers text outside.input outside.shelf →
-    (WritesNothing s → ⊥) → (s ≡ status.Ok → outside.out.written_after ≡ append_known outside.out.written_before text) → (s ≢ status.Ok → HasPart outside.out.written_before text outside.out.written_after) →
+    (WritesNothing s → ⊥) → (s ≡ status.Ok → outside.out.written_after ≡ append_known outside.out.written_before text) → (s ≢ status.Ok → HasProperPart outside.out.written_before text outside.out.written_after) →
     (s ≡ status.WriteFault → Rose outside.out.faults_before outside.out.faults_after) → (IsTrue outside.out.answers_faults → s ≢ status.WriteFault → outside.out.faults_after ≡ outside.out.faults_before) → IsCarriedOut Answers s outside
 carried_by_text Answers text s outside made begun whole part failed answered = record {
   given = made.given;

@@ -1,5 +1,5 @@
 -- What is made of a rule file.
-use Rattle.std.proofs.Common.{◌≡◌, ℕ, ◌<◌, ◌≤◌, List, [], ◌++◌, length, Vec, Option, Some, None, Result, Ok, Err, true, false, refl, subst, sym, ap, ◌∙◌, inl, inr, append-nil, length-append, arith}
+use Rattle.std.proofs.Common.{◌≡◌, ◌≢◌, ℕ, ◌+◌, ◌<◌, ◌≤◌, List, [], ◌++◌, length, Vec, Option, Some, None, Result, Ok, Err, true, false, refl, subst, sym, ap, ◌∙◌, inl, inr, append-nil, length-append, arith}
 use Rattle.std.specs.Prelude.{◌⊎◌, IsTrue, MatchResult, IfErr, is_some}
 use Rattle.std.specs.Io.KnownBytes.{prepend_known, IsAtEnd}
 use Rattle.qz_circ.specs.declared.fault.RuleFault.{RuleFault}
@@ -14,6 +14,7 @@ use Rattle.qz_io.specs.declared.transfers.Unread.{Unread}
 use Rattle.qz_io.specs.declared.transfers.Unread.TheVariants as unread
 use Rattle.qz_io.specs.Counts.{Rose}
 use Rattle.qz_io.specs.Files.{Files, TellsWhether, IsWholeFile}
+use Rattle.qz_io.specs.Told.{TakesBytes}
 use Rattle.qz_io.specs.Transfers.{Input, IsReadWhole}
 use Rattle.qz_rulefile.proofs.Unique.{one_reading}
 use Rattle.qz_top.specs.declared.status.Status.{Status}
@@ -21,7 +22,7 @@ use Rattle.qz_top.specs.declared.status.Status.TheVariants as status
 use Rattle.qz_top.specs.Status.{IsRefusal, IsBeforeInput}
 use Rattle.qz_top.specs.Answer.{Answer, Given, Storage, IsTold, refused_with}
 use Rattle.qz_top.specs.Making.{IsToBeWritten, EndsEarly, EndsUnread, IsOpened, IsFileRead, AreRulesRead, IsMadeOfInput, EndsByInput}
-use Rattle.qz_top.specs.Optimise.{most_rule_bytes, status_of_rule_fault, status_of_unread_file, status_of_opening, with_circuit, optimised_text, RulesAnswer, FileAnswer, NamedAnswer, Optimises}
+use Rattle.qz_top.specs.Optimise.{most_rule_bytes, status_of_rule_fault, status_of_unread_file, status_of_opening, with_circuit, optimised_text, RulesAnswer, FileAnswer, NamedAnswer, Optimises, TellsFile, IsRuleFileTaken, TakesRuleFile, TakesFileForRules}
 use Rattle.qz_top.specs.Optimised.{IsOptimised, IsOptimisedBy}
 use Rattle.qz_top.proofs.AnswerLemmas.{some_input, some_given, memory_ends, refusal_ends, shelf_fault_ends}
 use Rattle.qz_top.proofs.InputLemmas.{AreOfInput, ends_by_input, written_by_input, ends_late}
@@ -213,3 +214,44 @@ module _ (plan : PlanNumbers) where
 pub late_by_rules : {T : Type 0} (P : T → Type 0) (Q : Type 0) (made : Result T Status) (input : Input) → MatchResult made P (λ s. EndsByInput s input) → IfErr made (λ s. IsBeforeInput s → Q)
 late_by_rules P Q (Ok text) input is = tt
 late_by_rules P Q (Err s) input is = λ b. absurd (ends_late s input is b)
+
+-- ---- how a rule file is read
+
+-- what was told when it was opened is the whole file
+opened_whole : (told : Option Files) (name file : List ℕ) (rest : Option (List ℕ)) → TellsFile told name file → IsWholeFile told name rest → rest ≡ Some file
+opened_whole None name file rest tells whole = absurd tells
+opened_whole (Some files) name file rest tells whole = whole ∙ tells
+
+-- a file from which no byte past the limit was taken is taken so at each status
+taken_within : (file : List ℕ) (left : Option (List ℕ)) (s : Status) → TakesBytes (Some file) left (λ n. n ≤ most_rule_bytes) → IsRuleFileTaken file left s
+taken_within file left s takes = record { taken = (takes.0, takes.1, omega (arith, takes.2)); within = λ _. takes }
+
+-- also where the status comes later
+pub taken_late : (file : List ℕ) (before after : Option (List ℕ)) (s : Status) → TakesBytes (Some file) after (λ n. n ≤ most_rule_bytes) → TakesRuleFile file before after s
+taken_late file before after s takes = inl (taken_within file after s takes)
+
+pub taken_for_rules : {R : Type 0} (file : List ℕ) (before after : Option (List ℕ)) (made : Result R Status) → TakesBytes (Some file) after (λ n. n ≤ most_rule_bytes) → TakesFileForRules file before after made
+taken_for_rules file before after (Ok r) takes = takes
+taken_for_rules file before after (Err s) takes = taken_late file before after s takes
+
+-- the open file is taken so, whether or not its rules are read
+taken_whole : {R : Type 0} (file : List ℕ) (before after : Option (List ℕ)) (made : Result R Status) → TakesBytes (Some file) after (λ n. n ≤ most_rule_bytes + 1) →
+    (made ≢ Err (status.Limit RuleBytes) → TakesBytes (Some file) after (λ n. n ≤ most_rule_bytes)) → TakesFileForRules file before after made
+taken_whole file before after (Ok r) taken within = within (λ e. cc)
+taken_whole file before after (Err s) taken within = inl (record { taken = taken; within = λ other. within (λ e. other cc) })
+
+pub taken_open : {R : Type 0} (told : Option Files) (name file : List ℕ) (before opened after : Option (List ℕ)) (made : Result R Status) → TellsFile told name file → IsWholeFile told name opened →
+    TakesBytes opened after (λ n. n ≤ most_rule_bytes + 1) → (made ≢ Err (status.Limit RuleBytes) → TakesBytes opened after (λ n. n ≤ most_rule_bytes)) → TakesFileForRules file before after made
+taken_open told name file before opened after made tells whole taken within =
+    let is : opened ≡ Some file = opened_whole told name file opened tells whole in
+    taken_whole file before after made (subst (λ o. TakesBytes o after (λ n. n ≤ most_rule_bytes + 1)) is taken) (λ other. subst (λ o. TakesBytes o after (λ n. n ≤ most_rule_bytes)) is (within other))
+
+-- a file that is told isn't missing
+pub told_is_found : (told : Option Files) (name file : List ℕ) → TellsFile told name file → TellsWhether told name false → ⊥
+told_is_found None name file tells missing = tells
+told_is_found (Some files) name file tells missing = let h : None ≡ Some file = sym (none_where (files name) missing) ∙ tells in cc
+
+-- a file that isn't opened
+pub taken_unopened : (e : IoFault) (file : List ℕ) (before after : Option (List ℕ)) → after ≡ before → TakesRuleFile file before after (status_of_opening e)
+taken_unopened opening.Failed file before after kept = inr (inl refl, kept)
+taken_unopened opening.Memory file before after kept = inr (inr refl, kept)

@@ -1,8 +1,9 @@
 -- What the words of a command, and one of them that names a file, stand for.
-use Rattle.std.proofs.Common.{◌≡◌, ℕ, true, List, [], Result, Ok, refl, subst, sym, ◌∙◌, ap, inl, inr}
+use Rattle.std.proofs.Common.{◌≡◌, ℕ, true, List, [], Option, Result, Ok, Err, refl, subst, sym, ◌∙◌, ap, inl, inr}
 use Rattle.std.specs.Prelude.{◌⊎◌, slice_index_or, MatchResult}
 use Rattle.qz_circ.specs.Circuit.{Limits}
 use Rattle.qz_circ.specs.Search.{PlanNumbers}
+use Rattle.qz_io.specs.Files.{Files}
 use Rattle.qz_io.specs.Transfers.{Input}
 use Rattle.qz_top.specs.declared.status.Status.{Status}
 use Rattle.qz_top.specs.declared.status.Status.TheVariants as status
@@ -11,9 +12,9 @@ use Rattle.qz_top.specs.declared.words.Command.TheVariants.{Optimise}
 use Rattle.qz_top.specs.declared.words.WordFault.{WordFault}
 use Rattle.qz_top.specs.Answer.{Answer, Storage, Outside, IsCalm, IsCarriedOut}
 use Rattle.qz_top.specs.Making.{EndsEarly, HasRules}
-use Rattle.qz_top.specs.Optimise.{Optimises}
+use Rattle.qz_top.specs.Optimise.{Optimises, TellsFile}
 use Rattle.qz_top.specs.Optimised.{WritesOptimised}
-use Rattle.qz_top.specs.Run.{GenerationAnswers, CommandAnswers, CommandNeedsProgram, NeedsProgram}
+use Rattle.qz_top.specs.Run.{GenerationAnswers, CommandAnswers, CommandNeedsProgram, NeedsProgram, IsOfProgram, AsksOfProgram}
 use Rattle.qz_top.specs.Words.{command_of}
 use Rattle.qz_top.proofs.AnswerLemmas.{some_given, refusal_ends}
 
@@ -29,6 +30,14 @@ words_need words command shelf e needs = subst (λ (r : Result Command WordFault
 pub words_need_or : {Q : Type 0} (words : List (List ℕ)) (command : Command) (shelf : Storage) → Ok command ≡ command_of words → Q ⊎ CommandNeedsProgram words command shelf → Q ⊎ NeedsProgram words shelf
 words_need_or words command shelf e (inl q) = inl q
 words_need_or words command shelf e (inr needs) = inr (words_need words command shelf e needs)
+
+-- what words ask for is what their command is
+pub words_ask : (words : List (List ℕ)) (command : Command) → Ok command ≡ command_of words → AsksOfProgram words → IsOfProgram command
+words_ask words command e asks = subst (λ (r : Result Command WordFault). MatchResult r IsOfProgram (λ refused. ⊥)) (sym e) asks
+
+-- words that are refused ask for no command
+pub refused_ask : (words : List (List ℕ)) (fault : WordFault) → Err fault ≡ command_of words → AsksOfProgram words → ⊥
+refused_ask words fault e asks = subst (λ (r : Result Command WordFault). MatchResult r IsOfProgram (λ refused. ⊥)) (sym e) asks
 
 -- the word with a number
 abbrev word_at : List (List ℕ) → ℕ → List ℕ
@@ -61,6 +70,12 @@ module _ (words : List (List ℕ)) (command : Command) (k : ℕ) (plan : PlanNum
   pub needs_by_name_or : (Q : Type 0) (shelf : Storage) → Q ⊎ HasRules name shelf → Q ⊎ CommandNeedsProgram words command shelf
   needs_by_name_or Q shelf (inl q) = inl q
   needs_by_name_or Q shelf (inr rules) = inr (needs_by_name shelf rules)
+
+  -- and how its file is read
+  pub file_by_name : (j : ℕ) (other : PlanNumbers) (more : ℕ) (told : Option Files) (file : List ℕ) → command ≡ Optimise j other more → TellsFile told (word_at words j) file → TellsFile told name file
+  file_by_name j other more told file same tells =
+      let number : k ≡ j = same_number k j plan other workers more (sym is ∙ same) in
+      subst (λ (n : List ℕ). TellsFile told n file) (sym (named ∙ ap (word_at words) number)) tells
 
 -- a generation with a report ends early, since reports aren't built
 pub unbuilt_carried : (b : Limits) (input : Input) (shelf : Storage) → input.faults_after ≡ input.faults_before → IsCalm shelf → EndsEarly (λ given. GenerationAnswers b true) status.Unbuilt input shelf

@@ -4,7 +4,7 @@ use Rattle.std.specs.Fmt.{decimal}
 use Rattle.std.specs.Io.KnownBytes.{append_known}
 use Rattle.qz_circ.specs.declared.fault.QasmFault.{QasmFault}
 use Rattle.qz_io.specs.declared.fault.IoFault.{IoFault}
-use Rattle.qz_io.specs.Told.{HasPart}
+use Rattle.qz_io.specs.Told.{HasPart, HasProperPart}
 use Rattle.qz_top.specs.declared.status.Status.{Status}
 use Rattle.qz_top.specs.declared.status.Status.TheVariants.{Qasm}
 use Rattle.qz_top.specs.FaultTexts.{fault_kind, fault_place, status_text}
@@ -32,10 +32,10 @@ module _ (s v : Status) (is : s ≡ v) (text : List ℕ) (same : status_text v �
   pub whole_text : OnOk result (q ≡ append_known o text) → OnOk result (q ≡ append_known o (status_text s))
   whole_text told = subst (λ (t : List ℕ). OnOk result (q ≡ append_known o t)) the_text told
 
-  pub part_of_text : OnErr result (HasPart o text q) → OnErr result (HasPart o (status_text s) q)
-  part_of_text told = subst (λ (t : List ℕ). OnErr result (HasPart o t q)) the_text told
+  pub part_of_text : OnErr result (HasProperPart o text q) → OnErr result (HasProperPart o (status_text s) q)
+  part_of_text told = subst (λ (t : List ℕ). OnErr result (HasProperPart o t q)) the_text told
 
 -- a text that is written whole, or a part of it, is written in part
-pub told_in_part : (text : List ℕ) (o q : Option (List ℕ)) (result : Result (Unit {0}) IoFault) → OnOk result (q ≡ append_known o text) → OnErr result (HasPart o text q) → HasPart o text q
+pub told_in_part : (text : List ℕ) (o q : Option (List ℕ)) (result : Result (Unit {0}) IoFault) → OnOk result (q ≡ append_known o text) → OnErr result (HasProperPart o text q) → HasPart o text q
 told_in_part text o q (Ok u) whole part = (length text, whole ∙ ap (append_known o) (sym (take_all (length text) text (omega arith))))
-told_in_part text o q (Err fault) whole part = part
+told_in_part text o q (Err fault) whole part = (part.0, part.2)

@@ -4,7 +4,7 @@ use Rattle.std.specs.Prelude.{◌≡◌, ◌≢◌, ℕ, ◌⊎◌, Bool, IsTrue
 use Rattle.std.specs.Io.KnownBytes.{append_known}
 use Rattle.qz_io.specs.Counts.{Rose}
 use Rattle.qz_io.specs.Files.{Files}
-use Rattle.qz_io.specs.Told.{HasPart}
+use Rattle.qz_io.specs.Told.{HasProperPart}
 use Rattle.qz_io.specs.Transfers.{Input}
 use Rattle.qz_top.specs.declared.status.Status.{Status}
 use Rattle.qz_top.specs.declared.status.Status.TheVariants.{Ok, Memory, ReadFault, WriteFault, ShelfFault}
@@ -85,12 +85,12 @@ pub record Writes (Answers : Answer → Type 0) (out : Output) : Type 0 where
   pub done : answer.status ≡ Ok
   pub whole : out.written_after ≡ append_known out.written_before answer.out
 
--- one of the answers ends well, and what the output tells has grown by a prefix of its text
+-- one of the answers ends well, and what the output tells has grown by a prefix of its text that is not the whole text
 pub record WritesPart (Answers : Answer → Type 0) (out : Output) : Type 0 where
   pub answer : Answer
   pub is_answer : Answers answer
   pub done : answer.status ≡ Ok
-  pub part : HasPart out.written_before answer.out out.written_after
+  pub part : HasProperPart out.written_before answer.out out.written_after
 
 -- A command with these answers to what it is given ends with this status. Where the outside does not tell what it gives,
 -- the command is carried out as for something that may have been given.
@@ -99,7 +99,7 @@ pub record IsCarriedOut (Answers : Given → Answer → Type 0) (status : Status
   pub told : AreTold outside.input outside.shelf given
   -- it is refused only where that is the answer
   pub refused : IsRefusal status → Answers given (refused_with status)
-  -- the whole text is written, or a prefix of it; where memory runs out, perhaps nothing
+  -- the whole text is written, or not all of it; where memory runs out, perhaps nothing
   pub ok : status ≡ Ok → Writes (Answers given) outside.out
   pub write_fault : status ≡ WriteFault → WritesPart (Answers given) outside.out
   pub memory : status ≡ Memory → (outside.out.written_after ≡ outside.out.written_before) ⊎ WritesPart (Answers given) outside.out

@@ -1,5 +1,5 @@
 -- The command that optimises a program by the rules of a file.
-use Rattle.std.specs.Prelude.{◌≡◌, ℕ, ◌<◌, ◌≤◌, ◌⊎◌, List, length, Option, Some, None, Result, Ok, Err}
+use Rattle.std.specs.Prelude.{◌≡◌, ◌≢◌, ℕ, ◌+◌, ◌<◌, ◌≤◌, ◌⊎◌, List, length, Option, Some, None, Result, Ok, Err, MatchResult}
 use Rattle.qz_circ.specs.declared.fault.RuleFault.{RuleFault}
 use Rattle.qz_circ.specs.declared.fault.RuleFault.TheVariants as fault
 use Rattle.qz_circ.specs.declared.fault.Which.TheVariants.{RuleBytes}
@@ -10,6 +10,8 @@ use Rattle.qz_circ.specs.ProgramText.{program_text}
 use Rattle.qz_circ.specs.Replacement.{children}
 use Rattle.qz_circ.specs.RuleFiles.{RuleClasses, Reads}
 use Rattle.qz_circ.specs.Search.{PlanNumbers, best_found}
+use Rattle.qz_io.specs.Files.{Files}
+use Rattle.qz_io.specs.Told.{TakesBytes}
 use Rattle.qz_io.specs.declared.fault.IoFault.{IoFault}
 use Rattle.qz_io.specs.declared.fault.IoFault.TheVariants as opening
 use Rattle.qz_io.specs.declared.transfers.Unread.{Unread}
@@ -73,3 +75,28 @@ NamedAnswer plan given (Some file) answer = FileAnswer plan given file answer
 -- the answers to what is given, with the rule file of this name and this plan
 abbrev pub Optimises : List ℕ → PlanNumbers → Given → Answer → Type 0
 Optimises name plan given answer = NamedAnswer plan given (given.files name) answer
+
+-- ---- how the rule file is read
+
+-- the shelf tells that this is the file with this name
+abbrev pub TellsFile : Option Files → List ℕ → List ℕ → Type 0
+TellsFile None name file = ⊥
+TellsFile (Some files) name file = files name ≡ Some file
+
+-- this is left of the file where a command that opened it ends with this status: at most one byte past the limit is taken, and only
+-- where that limit is told
+pub record IsRuleFileTaken (file : List ℕ) (left : Option (List ℕ)) (s : Status) : Type 0 where
+  pub taken : TakesBytes (Some file) left (λ n. n ≤ most_rule_bytes + 1)
+  pub within : s ≢ status.Limit RuleBytes → TakesBytes (Some file) left (λ n. n ≤ most_rule_bytes)
+
+-- the file isn't opened: the shelf failed or memory ran out, and what is told to be left of an open file is as it was
+abbrev pub IsRuleFileUnopened : Option (List ℕ) → Option (List ℕ) → Status → Type 0
+IsRuleFileUnopened before after s = ((s ≡ status.ShelfFault) ⊎ (s ≡ status.Memory)) × (after ≡ before)
+
+-- the file is taken so, or isn't opened
+abbrev pub TakesRuleFile : List ℕ → Option (List ℕ) → Option (List ℕ) → Status → Type 0
+TakesRuleFile file before after s = IsRuleFileTaken file after s ⊎ IsRuleFileUnopened before after s
+
+-- the rules are read and no byte past the limit is taken; or a command ends before it has rules, and the file is taken so
+abbrev pub TakesFileForRules : {R : Type 0} → List ℕ → Option (List ℕ) → Option (List ℕ) → Result R Status → Type 0
+TakesFileForRules file before after made = MatchResult made (λ _. TakesBytes (Some file) after (λ n. n ≤ most_rule_bytes)) (TakesRuleFile file before after)

@@ -46,3 +46,14 @@ CommandNeedsProgram words (Trial seed q g) shelf = ⊥
 -- so does the command that the words ask for
 abbrev pub NeedsProgram : List (List ℕ) → Storage → Type 0
 NeedsProgram words shelf = MatchResult (command_of words) (λ command. CommandNeedsProgram words command shelf) (λ refused. ⊥)
+
+-- the command is about the program that the input is
+abbrev pub IsOfProgram : Command → Type 0
+IsOfProgram (Generate bounds workers seed report) = ⊥
+IsOfProgram Tidy = Unit {0}
+IsOfProgram (Optimise rules plan workers) = Unit {0}
+IsOfProgram (Trial seed q g) = ⊥
+
+-- the words ask for such a command
+abbrev pub AsksOfProgram : List (List ℕ) → Type 0
+AsksOfProgram words = MatchResult (command_of words) IsOfProgram (λ refused. ⊥)

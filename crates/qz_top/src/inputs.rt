@@ -1,5 +1,5 @@
 //! The input of a command that needs a program: how it is read, and why it is refused.
-ghost use Rattle.std.specs.Prelude.{◌≡◌, ◌≤◌, ◌+◌, ◌⊎◌, length, Ok, IfOk, MatchResult, OnOk};
+ghost use Rattle.std.specs.Prelude.{◌≡◌, ◌≢◌, ◌≤◌, ◌+◌, ◌⊎◌, length, Ok, Err, IfOk, MatchResult, OnOk};
 ghost use Rattle.std.specs.Io.KnownBytes.{IsAtEnd};
 ghost use Rattle.qz_circ.specs.Grammar.{program_of};
 ghost use Rattle.qz_circ.specs.ValidPrograms.{Valid};
@@ -59,6 +59,7 @@ pub(crate) fn program_in<I: Source>(alloc: Global, input: &mut I) -> Result<Prog
     ensures valid { IfOk result Valid }
     ensures at_end { OnOk result (IsAtEnd (I.left input.new)) }
     ensures taken { TakesBytes (I.left input.old) (I.left input.new) (λ n. n ≤ most_input_bytes + 1) }
+    ensures within { result ≢ Err (Status.Limit Which.InputBytes) → TakesBytes (I.left input.old) (I.left input.new) (λ n. n ≤ most_input_bytes) }
     ensures faults { I.faults input.old ≤ I.faults input.new }
 {
     match read_source(alloc, input, LIMIT) {

@@ -1,5 +1,5 @@
 //! The command that optimises a program by the rules of a file.
-ghost use Rattle.std.specs.Prelude.{◌≡◌, ℕ, ◌+◌, ◌≤◌, ◌⊎◌, List, IsTrue, Ok, Err, IfOk, IfErr, OnOk, MatchResult};
+ghost use Rattle.std.specs.Prelude.{◌≡◌, ◌≢◌, ℕ, ◌+◌, ◌≤◌, ◌⊎◌, List, IsTrue, Ok, Err, IfOk, IfErr, OnOk, MatchResult};
 ghost use Rattle.std.specs.Io.KnownBytes.{IsAtEnd};
 ghost use Rattle.qz_circ.specs.RuleFiles.{Reads};
 ghost use Rattle.qz_circ.specs.Search.{PlanNumbers};
@@ -10,7 +10,7 @@ ghost use Rattle.qz_io.specs.Transfers.{input_of};
 ghost use Rattle.qz_top.specs.Answer.{Storage, storage_of, output_of, IsCarriedOut};
 ghost use Rattle.qz_top.specs.Inputs.{most_input_bytes};
 ghost use Rattle.qz_top.specs.Making.{EndsEarly, EndsUnread, IsOpened, AreRulesRead, HasRules, IsMadeOfInput, EndsByInput};
-ghost use Rattle.qz_top.specs.Optimise.{status_of_rule_fault, status_of_unread_file, status_of_opening, Optimises};
+ghost use Rattle.qz_top.specs.Optimise.{most_rule_bytes, status_of_rule_fault, status_of_unread_file, status_of_opening, Optimises, TellsFile, TakesRuleFile, TakesFileForRules};
 ghost use Rattle.qz_top.specs.Optimised.{IsFound, IsOptimised, IsOptimisedBy, WritesOptimised};
 ghost use Rattle.qz_top.specs.Status.{IsBeforeInput, WritesNothing};
 
@@ -77,6 +77,9 @@ fn rules_in_open_file<F: Shelf>(alloc: Global, shelf: &mut F) -> Result<Rules, S
     ensures made { (name : List ℕ) (plan : PlanNumbers) (opened : Storage) → IsOpened name (F.rest shelf.old) opened → opened.faults_after ≡ F.faults shelf.old → opened.answers_faults ≡ F.answers_faults →
         let shown : Storage = record { files = opened.files; faults_before = opened.faults_before; faults_after = F.faults shelf.new; answers_faults = F.answers_faults } in
         MatchResult result (λ rules. AreRulesRead name rules shown) (λ status. EndsUnread (Optimises name plan) status shown) }
+    ensures at_end { OnOk result (IsAtEnd (F.rest shelf.new)) }
+    ensures taken { TakesBytes (F.rest shelf.old) (F.rest shelf.new) (λ n. n ≤ most_rule_bytes + 1) }
+    ensures within { result ≢ Err (Status.Limit Which.RuleBytes) → TakesBytes (F.rest shelf.old) (F.rest shelf.new) (λ n. n ≤ most_rule_bytes) }
     ensures files { F.files shelf.new ≡ F.files shelf.old }
     ensures faults { F.faults shelf.old ≤ F.faults shelf.new }
 {
@@ -91,6 +94,8 @@ fn rules_in<F: Shelf>(alloc: Global, name: &str, shelf: &mut F) -> Result<Rules,
     // Whatever the plan is.
     ensures made { (plan : PlanNumbers) → let shown = storage_of F.files F.faults F.answers_faults shelf.old shelf.new in
         MatchResult result (λ rules. AreRulesRead name.now rules shown) (λ status. EndsUnread (Optimises name.now plan) status shown) }
+    ensures file_at_end { OnOk result (IsAtEnd (F.rest shelf.new)) }
+    ensures file_taken { (file : List ℕ) → TellsFile (F.files shelf.old) name.now file → TakesFileForRules file (F.rest shelf.old) (F.rest shelf.new) result }
     ensures files { F.files shelf.new ≡ F.files shelf.old }
     ensures faults { F.faults shelf.old ≤ F.faults shelf.new }
 {
@@ -132,6 +137,7 @@ fn optimised_input<I: Source>(
         MatchResult result (λ text. IsMadeOfInput (λ program. IsOptimised rules.now plan program text.items) shown) (λ status. EndsByInput status shown) }
     ensures at_end { OnOk result (IsAtEnd (I.left input.new)) }
     ensures taken { TakesBytes (I.left input.old) (I.left input.new) (λ n. n ≤ most_input_bytes + 1) }
+    ensures within { result ≢ Err (Status.Limit Which.InputBytes) → TakesBytes (I.left input.old) (I.left input.new) (λ n. n ≤ most_input_bytes) }
     ensures faults { I.faults input.old ≤ I.faults input.new }
 {
     match program_in(alloc, input) {
@@ -153,9 +159,12 @@ fn optimised_by<I: Source, F: Shelf>(
         MatchResult result (λ text. IsOptimisedBy name.now plan text.items input_shown shelf_shown) (λ status. EndsEarly (Optimises name.now plan) status input_shown shelf_shown) }
     ensures at_end { OnOk result (IsAtEnd (I.left input.new)) }
     ensures taken { TakesBytes (I.left input.old) (I.left input.new) (λ n. n ≤ most_input_bytes + 1) }
+    ensures within { result ≢ Err (Status.Limit Which.InputBytes) → TakesBytes (I.left input.old) (I.left input.new) (λ n. n ≤ most_input_bytes) }
     ensures unread { (input.new ≡ input.old) ⊎ HasRules name.now (storage_of F.files F.faults F.answers_faults shelf.old shelf.new) }
     ensures before { IfErr result (λ status. IsBeforeInput status → input.new ≡ input.old) }
     ensures read_fault { result ≡ Err Status.ReadFault → HasRules name.now (storage_of F.files F.faults F.answers_faults shelf.old shelf.new) }
+    ensures file_at_end { OnOk result (IsAtEnd (F.rest shelf.new)) }
+    ensures file_taken { (file : List ℕ) → TellsFile (F.files shelf.old) name.now file → TakesFileForRules file (F.rest shelf.old) (F.rest shelf.new) result }
     ensures files { F.files shelf.new ≡ F.files shelf.old }
     ensures input_faults { I.faults input.old ≤ I.faults input.new }
     ensures shelf_faults { F.faults shelf.old ≤ F.faults shelf.new }
@@ -182,10 +191,13 @@ pub(crate) fn optimise<I: Source, F: Shelf, O: Sink>(
         (record { input = input_of I.left I.faults I.answers_faults input.old input.new; shelf = storage_of F.files F.faults F.answers_faults shelf.old shelf.new; out = output_of O.written O.faults O.answers_faults out.old out.new }) }
     ensures at_end { result ≡ Status.Ok → IsAtEnd (I.left input.new) }
     ensures taken { TakesBytes (I.left input.old) (I.left input.new) (λ n. n ≤ most_input_bytes + 1) }
+    ensures within { result ≢ Status.Limit Which.InputBytes → TakesBytes (I.left input.old) (I.left input.new) (λ n. n ≤ most_input_bytes) }
     ensures unread { (input.new ≡ input.old) ⊎ HasRules name.now (storage_of F.files F.faults F.answers_faults shelf.old shelf.new) }
     ensures before { IsBeforeInput result → input.new ≡ input.old }
     ensures read_fault { result ≡ Status.ReadFault → HasRules name.now (storage_of F.files F.faults F.answers_faults shelf.old shelf.new) }
     ensures untouched { WritesNothing result → out.new ≡ out.old }
+    ensures file_at_end { result ≡ Status.Ok → IsAtEnd (F.rest shelf.new) }
+    ensures file_taken { (file : List ℕ) → TellsFile (F.files shelf.old) name.now file → TakesRuleFile file (F.rest shelf.old) (F.rest shelf.new) result }
     ensures files { F.files shelf.new ≡ F.files shelf.old }
     ensures input_faults { I.faults input.old ≤ I.faults input.new }
     ensures shelf_faults { F.faults shelf.old ≤ F.faults shelf.new }

@@ -1,7 +1,8 @@
 //! The top call: a command from its words to what it writes.
-ghost use Rattle.std.specs.Prelude.{◌≡◌, ◌≢◌, ℕ, Bool, true, ◌+◌, ◌<◌, ◌≤◌, ◌⊎◌, [], length, map, slice_index_or, string_bytes};
+ghost use Rattle.std.specs.Prelude.{◌≡◌, ◌≢◌, ℕ, Bool, true, ◌+◌, ◌<◌, ◌≤◌, ◌⊎◌, List, [], length, map, slice_index_or, string_bytes};
 ghost use Rattle.std.specs.Io.KnownBytes.{IsAtEnd, append_known};
 ghost use Rattle.qz_circ.specs.Circuit.{Limits};
+ghost use Rattle.qz_circ.specs.declared.fault.Which.TheVariants.{InputBytes};
 ghost use Rattle.qz_circ.specs.Search.{PlanNumbers};
 ghost use Rattle.qz_io.specs.Counts.{Rose};
 ghost use Rattle.qz_io.specs.Told.{HasPart, TakesBytes};
@@ -10,8 +11,9 @@ ghost use Rattle.qz_top.specs.Answer.{Answer, Given, storage_of, output_of, IsCa
 ghost use Rattle.qz_top.specs.FaultTexts.{status_text};
 ghost use Rattle.qz_top.specs.Generate.{WritesCompleteRules};
 ghost use Rattle.qz_top.specs.Inputs.{most_input_bytes};
+ghost use Rattle.qz_top.specs.Optimise.{TellsFile, TakesRuleFile};
 ghost use Rattle.qz_top.specs.Optimised.{WritesOptimised};
-ghost use Rattle.qz_top.specs.Run.{status_of_words, CommandAnswers, WordsAnswer, CommandNeedsProgram, NeedsProgram};
+ghost use Rattle.qz_top.specs.Run.{status_of_words, CommandAnswers, WordsAnswer, CommandNeedsProgram, NeedsProgram, IsOfProgram, AsksOfProgram};
 ghost use Rattle.qz_top.specs.Status.{IsBeforeInput, WritesNothing};
 ghost use Rattle.qz_top.specs.Words.{IsLawfulCommand, command_of};
 
@@ -53,13 +55,17 @@ fn carry_out<I: Source, F: Shelf, O: Sink>(
     ensures optimised { (k : ℕ) (plan : PlanNumbers) (workers : ℕ) → command ≡ Command.Optimise k plan workers → result ≡ Status.Ok → WritesOptimised (slice_index_or (map string_bytes words.now) k []) plan
         (record { input = input_of I.left I.faults I.answers_faults input.old input.new; shelf = storage_of F.files F.faults F.answers_faults shelf.old shelf.new; out = output_of O.written O.faults O.answers_faults out.old out.new }) }
     ensures read_fault { result ≡ Status.ReadFault → CommandNeedsProgram (map string_bytes words.now) command (storage_of F.files F.faults F.answers_faults shelf.old shelf.new) }
-    ensures at_end { ((b : Limits) (workers seed : ℕ) (report : Bool) → command ≢ Command.Generate b workers seed report) → ((seed q g : ℕ) → command ≢ Command.Trial seed q g) → result ≡ Status.Ok → IsAtEnd (I.left input.new) }
+    ensures at_end { IsOfProgram command → result ≡ Status.Ok → IsAtEnd (I.left input.new) }
     ensures taken { TakesBytes (I.left input.old) (I.left input.new) (λ n. n ≤ most_input_bytes + 1) }
+    ensures within { result ≢ Status.Limit InputBytes → TakesBytes (I.left input.old) (I.left input.new) (λ n. n ≤ most_input_bytes) }
     ensures unread { (input.new ≡ input.old) ⊎ CommandNeedsProgram (map string_bytes words.now) command (storage_of F.files F.faults F.answers_faults shelf.old shelf.new) }
     ensures before { IsBeforeInput result → input.new ≡ input.old }
     ensures untouched { WritesNothing result → out.new ≡ out.old }
     ensures shelf_fault { result ≡ Status.ShelfFault → (k : ℕ) × (plan : PlanNumbers) × (workers : ℕ) × (command ≡ Command.Optimise k plan workers) }
     ensures unopened { ((k : ℕ) (plan : PlanNumbers) (workers : ℕ) → command ≢ Command.Optimise k plan workers) → shelf.new ≡ shelf.old }
+    ensures file_taken { (k : ℕ) (plan : PlanNumbers) (workers : ℕ) (file : List ℕ) → command ≡ Command.Optimise k plan workers → TellsFile (F.files shelf.old) (slice_index_or (map string_bytes words.now) k []) file
+        → TakesRuleFile file (F.rest shelf.old) (F.rest shelf.new) result }
+    ensures file_at_end { (k : ℕ) (plan : PlanNumbers) (workers : ℕ) → command ≡ Command.Optimise k plan workers → result ≡ Status.Ok → IsAtEnd (F.rest shelf.new) }
     ensures files { F.files shelf.new ≡ F.files shelf.old }
     ensures input_faults { I.faults input.old ≤ I.faults input.new }
     ensures shelf_faults { F.faults shelf.old ≤ F.faults shelf.new }
@@ -126,18 +132,24 @@ pub fn run_solo<I: Source, F: Shelf, O: Sink, E: Sink>(
     ensures unbuilt { (b : Limits) (workers seed : ℕ) → command_of (map string_bytes words.now) ≡ Ok (Command.Generate b workers seed true) → result ≡ Status.Unbuilt }
 
     // The input is as it was, unless the command needs a program and all before it is passed. It is read at most to one byte past
-    // its limit, and to its end where such a command is done.
+    // its limit, which is then told, and to its end where such a command is done.
     ensures unread { (input.new ≡ input.old) ⊎ NeedsProgram (map string_bytes words.now) (storage_of F.files F.faults F.answers_faults shelf.old shelf.new) }
     ensures before { IsBeforeInput result → input.new ≡ input.old }
     ensures taken { TakesBytes (I.left input.old) (I.left input.new) (λ n. n ≤ most_input_bytes + 1) }
-    ensures at_end { ((b : Limits) (workers seed : ℕ) (report : Bool) → command_of (map string_bytes words.now) ≢ Ok (Command.Generate b workers seed report))
-        → ((seed q g : ℕ) → command_of (map string_bytes words.now) ≢ Ok (Command.Trial seed q g)) → result ≡ Status.Ok → IsAtEnd (I.left input.new) }
+    ensures within { result ≢ Status.Limit InputBytes → TakesBytes (I.left input.old) (I.left input.new) (λ n. n ≤ most_input_bytes) }
+    ensures at_end { AsksOfProgram (map string_bytes words.now) → result ≡ Status.Ok → IsAtEnd (I.left input.new) }
     ensures read_fault { result ≡ Status.ReadFault → NeedsProgram (map string_bytes words.now) (storage_of F.files F.faults F.answers_faults shelf.old shelf.new) }
 
     // Only `optimise` opens a file of the shelf. No command changes the files.
     ensures unopened { ((k : ℕ) (plan : PlanNumbers) (workers : ℕ) → command_of (map string_bytes words.now) ≢ Ok (Command.Optimise k plan workers)) → shelf.new ≡ shelf.old }
     ensures shelf_fault { result ≡ Status.ShelfFault → (k : ℕ) × (plan : PlanNumbers) × (workers : ℕ) × (command_of (map string_bytes words.now) ≡ Ok (Command.Optimise k plan workers)) }
     ensures files { F.files shelf.new ≡ F.files shelf.old }
+
+    // The file that `optimise` opens is read at most to one byte past its limit, which is then told, and to its end where the
+    // command is done. So a fault of the shelf comes at the opening or before that byte.
+    ensures file_taken { (k : ℕ) (plan : PlanNumbers) (workers : ℕ) (file : List ℕ) → command_of (map string_bytes words.now) ≡ Ok (Command.Optimise k plan workers)
+        → TellsFile (F.files shelf.old) (slice_index_or (map string_bytes words.now) k []) file → TakesRuleFile file (F.rest shelf.old) (F.rest shelf.new) result }
+    ensures file_at_end { (k : ℕ) (plan : PlanNumbers) (workers : ℕ) → command_of (map string_bytes words.now) ≡ Ok (Command.Optimise k plan workers) → result ≡ Status.Ok → IsAtEnd (F.rest shelf.new) }
 
     ensures input_faults { I.faults input.old ≤ I.faults input.new }
     ensures shelf_faults { F.faults shelf.old ≤ F.faults shelf.new }

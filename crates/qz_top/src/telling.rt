@@ -2,7 +2,7 @@
 ghost use Rattle.std.specs.Prelude.{◌≡◌, ◌≢◌, ◌≤◌, IsTrue, OnOk, OnErr};
 ghost use Rattle.std.specs.Io.KnownBytes.{append_known};
 ghost use Rattle.qz_io.specs.Counts.{Rose};
-ghost use Rattle.qz_io.specs.Told.{HasPart};
+ghost use Rattle.qz_io.specs.Told.{HasPart, HasProperPart};
 ghost use Rattle.qz_top.specs.FaultTexts.{which_name, lex_kind, angle_kind, fault_kind, lex_place, angle_place, fault_place, status_text};
 
 use crate::pieces::Piece::{Number, Text};
@@ -128,10 +128,10 @@ fn fault_place(fault: QasmFault) -> u64
     }
 }
 
-// Writes the whole text of a status. After an error a prefix of it is written.
+// Writes the whole text of a status. After an error a prefix of it is written, which is not the whole text.
 fn deliver_status<E: Sink>(status: Status, err: &mut E) -> Result<(), IoFault>
     ensures whole { OnOk result (E.written err.new ≡ append_known (E.written err.old) (status_text status)) }
-    ensures part { OnErr result (HasPart (E.written err.old) (status_text status) (E.written err.new)) }
+    ensures part { OnErr result (HasProperPart (E.written err.old) (status_text status) (E.written err.new)) }
     ensures failed { result ≡ Err IoFault.Failed → Rose (E.faults err.old) (E.faults err.new) }
     ensures memory { result ≡ Err IoFault.Memory → Rose (E.wants err.old) (E.wants err.new) }
     ensures faults { E.faults err.old ≤ E.faults err.new }

@@ -1,6 +1,7 @@
 //! The command that writes the canonical text of a program.
-ghost use Rattle.std.specs.Prelude.{◌≡◌, ◌≤◌, ◌+◌, MatchResult, OnOk};
+ghost use Rattle.std.specs.Prelude.{◌≡◌, ◌≢◌, ◌≤◌, ◌+◌, Err, MatchResult, OnOk};
 ghost use Rattle.std.specs.Io.KnownBytes.{IsAtEnd};
+ghost use Rattle.qz_circ.specs.declared.fault.Which.TheVariants.{InputBytes};
 ghost use Rattle.qz_circ.specs.ProgramText.{program_text};
 ghost use Rattle.qz_io.specs.Told.{TakesBytes};
 ghost use Rattle.qz_io.specs.Transfers.{input_of};
@@ -22,6 +23,7 @@ fn tidied_input<I: Source>(alloc: Global, input: &mut I) -> Result<Vec<u8>, Stat
         MatchResult result (λ text. IsMadeOfInput (λ program. text.items ≡ program_text program) shown) (λ status. EndsByInput status shown) }
     ensures at_end { OnOk result (IsAtEnd (I.left input.new)) }
     ensures taken { TakesBytes (I.left input.old) (I.left input.new) (λ n. n ≤ most_input_bytes + 1) }
+    ensures within { result ≢ Err (Status.Limit InputBytes) → TakesBytes (I.left input.old) (I.left input.new) (λ n. n ≤ most_input_bytes) }
     ensures faults { I.faults input.old ≤ I.faults input.new }
 {
     match program_in(alloc, input) {
@@ -37,6 +39,7 @@ pub(crate) fn tidy<I: Source, O: Sink>(alloc: Global, input: &mut I, out: &mut O
         (record { input = input_of I.left I.faults I.answers_faults input.old input.new; shelf = shelf; out = output_of O.written O.faults O.answers_faults out.old out.new }) }
     ensures at_end { result ≡ Status.Ok → IsAtEnd (I.left input.new) }
     ensures taken { TakesBytes (I.left input.old) (I.left input.new) (λ n. n ≤ most_input_bytes + 1) }
+    ensures within { result ≢ Status.Limit InputBytes → TakesBytes (I.left input.old) (I.left input.new) (λ n. n ≤ most_input_bytes) }
     ensures untouched { WritesNothing result → out.new ≡ out.old }
     ensures late { IsBeforeInput result → ⊥ }
     ensures input_faults { I.faults input.old ≤ I.faults input.new }

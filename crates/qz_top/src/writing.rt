@@ -4,7 +4,7 @@ ghost use Rattle.std.specs.Io.KnownBytes.{append_known};
 ghost use Rattle.qz_circ.specs.ProgramText.{program_text};
 ghost use Rattle.qz_circ.specs.ValidPrograms.{Valid};
 ghost use Rattle.qz_io.specs.Counts.{Rose};
-ghost use Rattle.qz_io.specs.Told.{HasPart};
+ghost use Rattle.qz_io.specs.Told.{HasProperPart};
 ghost use Rattle.qz_top.specs.Status.{WritesNothing};
 
 use crate::status::Status;
@@ -21,11 +21,11 @@ pub(crate) fn text_of(alloc: Global, program: &Program) -> Result<Vec<u8>, Statu
     write(alloc, program).map_err(|_| Status::Memory)
 }
 
-// Writes the whole text.
+// Writes the whole text. After an error a prefix of it is written, which is not the whole text.
 pub(crate) fn write_text<O: Sink>(text: &[u8], out: &mut O) -> Status
     ensures begun { WritesNothing result → ⊥ }
     ensures ok { result ≡ Status.Ok → O.written out.new ≡ append_known (O.written out.old) text.now }
-    ensures part { result ≢ Status.Ok → HasPart (O.written out.old) text.now (O.written out.new) }
+    ensures part { result ≢ Status.Ok → HasProperPart (O.written out.old) text.now (O.written out.new) }
     ensures failed { result ≡ Status.WriteFault → Rose (O.faults out.old) (O.faults out.new) }
     ensures memory { result ≡ Status.Memory → Rose (O.wants out.old) (O.wants out.new) }
     ensures faults { O.faults out.old ≤ O.faults out.new }

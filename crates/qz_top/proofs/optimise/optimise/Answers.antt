@@ -1,10 +1,10 @@
 use Rattle.std.proofs.Common.{◌∙◌, List, ℕ, refl, subst, sym, ap, Err}
 use Rattle.std.specs.Io.KnownBytes.{append_known}
-use Rattle.qz_io.specs.Told.{HasPart}
+use Rattle.qz_io.specs.Told.{HasProperPart}
 use Rattle.qz_top.specs.Optimise.{Optimises}
 use Rattle.qz_top.specs.Status.{WritesNothing}
 use Rattle.qz_top.proofs.AnswerLemmas.{before_writes_nothing, carried_by_text}
-use Rattle.qz_top.proofs.OptimiseLemmas.{optimised_written}
+use Rattle.qz_top.proofs.OptimiseLemmas.{optimised_written, taken_late}
 use Rattle.qz_top.proofs.optimise.optimise.Goals as goal
 
 pub returns-in-Ok-clause-carried_out : goal.returns-in-Ok-clause-carried_out
@@ -12,7 +12,7 @@ returns-in-Ok-clause-carried_out g c =
     carried_by_text (Optimises c.args.name.now c.args.plan) c.in-Ok.text.items _ _ (optimised_written c.args.plan c.args.name.now c.in-Ok.text.items _ _ c.in-Ok.ensures.made)
     c.write_text.ensures.begun
     (λ e. c.write_text.ensures.ok e ∙ ap (append_known (g.O.Sink.written c.args.out.now)) c.deref.ensures.value)
-    (λ k. subst (λ (text : List ℕ). HasPart (g.O.Sink.written c.args.out.now) text (g.O.Sink.written c.write_text.new.out)) c.deref.ensures.value (c.write_text.ensures.part k))
+    (λ k. subst (λ (text : List ℕ). HasProperPart (g.O.Sink.written c.args.out.now) text (g.O.Sink.written c.write_text.new.out)) c.deref.ensures.value (c.write_text.ensures.part k))
     c.write_text.ensures.failed c.write_text.ensures.answered
 
 pub returns-in-Ok-clause-optimised : goal.returns-in-Ok-clause-optimised
@@ -39,3 +39,9 @@ returns-in-Err-clause-at_end g c = λ e. absurd (c.in-Err.ensures.made.not_done 
 
 pub returns-in-Err-clause-read_fault : goal.returns-in-Err-clause-read_fault
 returns-in-Err-clause-read_fault g c = λ e. c.in-Err.ensures.read_fault (ap Err e)
+
+pub returns-in-Ok-clause-file_taken : goal.returns-in-Ok-clause-file_taken
+returns-in-Ok-clause-file_taken g c = λ file tells. taken_late file _ _ c.write_text.result (c.in-Ok.ensures.file_taken file tells)
+
+pub returns-in-Err-clause-file_at_end : goal.returns-in-Err-clause-file_at_end
+returns-in-Err-clause-file_at_end g c = λ e. absurd (c.in-Err.ensures.made.not_done e)

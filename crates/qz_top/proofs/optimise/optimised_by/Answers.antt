@@ -1,6 +1,6 @@
 use Rattle.std.proofs.Common.{refl, inr}
 use Rattle.qz_top.proofs.AnswerLemmas.{no_read_fault}
-use Rattle.qz_top.proofs.OptimiseLemmas.{made_by_rules, late_by_rules}
+use Rattle.qz_top.proofs.OptimiseLemmas.{made_by_rules, late_by_rules, taken_for_rules}
 use Rattle.qz_top.proofs.optimise.optimised_by.Goals as goal
 
 pub returns-in-Ok-clause-made : goal.returns-in-Ok-clause-made
@@ -20,3 +20,6 @@ returns-in-Err-clause-made g c = c.in-Err.ensures.made c.args.plan _ refl
 
 pub returns-in-Err-clause-read_fault : goal.returns-in-Err-clause-read_fault
 returns-in-Err-clause-read_fault g c = λ e. absurd (no_read_fault _ _ _ (c.in-Err.ensures.made c.args.plan) cc)
+
+pub returns-in-Ok-clause-file_taken : goal.returns-in-Ok-clause-file_taken
+returns-in-Ok-clause-file_taken g c = λ file tells. taken_for_rules file _ _ c.optimised_input.result (c.in-Ok.ensures.file_taken file tells)

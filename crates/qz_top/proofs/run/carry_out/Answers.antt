@@ -3,7 +3,7 @@ use Rattle.qz_io.specs.Transfers.{input_of}
 use Rattle.qz_top.specs.Answer.{storage_of}
 use Rattle.qz_top.specs.Words.{IsLawfulCommand}
 use Rattle.qz_top.proofs.AnswerLemmas.{still, still_not_rose}
-use Rattle.qz_top.proofs.RunLemmas.{unbuilt_carried, carried_by_name, optimised_by_name, needs_by_name, needs_by_name_or}
+use Rattle.qz_top.proofs.RunLemmas.{unbuilt_carried, carried_by_name, optimised_by_name, needs_by_name, needs_by_name_or, file_by_name}
 use Rattle.qz_top.proofs.run.carry_out.Goals as goal
 
 pub returns-then-report-clause-carried_out : goal.returns-then-report-clause-carried_out
@@ -65,3 +65,7 @@ returns-in-Optimise-clause-unread g c =
 pub returns-in-Optimise-clause-read_fault : goal.returns-in-Optimise-clause-read_fault
 returns-in-Optimise-clause-read_fault g c = λ e.
     needs_by_name (map string_bytes c.args.words.now) c.args.command c.in-Optimise.rules c.in-Optimise.plan _ c.word.result.now c.in-Optimise.is c.word.ensures _ (c.optimise.ensures.read_fault e)
+
+pub returns-in-Optimise-clause-file_taken : goal.returns-in-Optimise-clause-file_taken
+returns-in-Optimise-clause-file_taken g c = λ k plan workers file is tells.
+    c.optimise.ensures.file_taken file (file_by_name (map string_bytes c.args.words.now) c.args.command c.in-Optimise.rules c.in-Optimise.plan _ c.word.result.now c.in-Optimise.is c.word.ensures k plan workers _ file is tells)

@@ -1,7 +1,7 @@
 use Rattle.std.proofs.Common.{map, string_bytes, refl}
 use Rattle.qz_top.proofs.AnswerLemmas.{words_carried, words_refused}
 use Rattle.qz_top.proofs.AnswerTexts.{answer_tells}
-use Rattle.qz_top.proofs.RunLemmas.{same_command, words_need, words_need_or}
+use Rattle.qz_top.proofs.RunLemmas.{same_command, words_need, words_need_or, words_ask, refused_ask}
 use Rattle.qz_top.proofs.run.run_solo.Goals as goal
 
 pub returns-in-Ok-clause-carried_out : goal.returns-in-Ok-clause-carried_out
@@ -28,3 +28,17 @@ returns-in-Err-clause-err_answer g c = answer_tells (map string_bytes c.args.wor
 pub returns-in-Err-clause-carried_out : goal.returns-in-Err-clause-carried_out
 returns-in-Err-clause-carried_out g c =
     rw c.status_of_words-status.ensures ((words_refused (map string_bytes c.args.words.now) c.in-Err.fault _ _ c.in-Err.ensures.command refl refl).carried_out _ refl refl)
+
+pub returns-in-Ok-clause-at_end : goal.returns-in-Ok-clause-at_end
+returns-in-Ok-clause-at_end g c = λ asks. c.carry_out-status.ensures.at_end (words_ask (map string_bytes c.args.words.now) c.in-Ok.command c.in-Ok.ensures.command asks)
+
+pub returns-in-Err-clause-at_end : goal.returns-in-Err-clause-at_end
+returns-in-Err-clause-at_end g c = λ asks. absurd (refused_ask (map string_bytes c.args.words.now) c.in-Err.fault c.in-Err.ensures.command asks)
+
+pub returns-in-Ok-clause-file_taken : goal.returns-in-Ok-clause-file_taken
+returns-in-Ok-clause-file_taken g c = λ k plan workers file is.
+    c.carry_out-status.ensures.file_taken k plan workers file (same_command (map string_bytes c.args.words.now) c.in-Ok.command _ c.in-Ok.ensures.command is)
+
+pub returns-in-Ok-clause-file_at_end : goal.returns-in-Ok-clause-file_at_end
+returns-in-Ok-clause-file_at_end g c = λ k plan workers is.
+    c.carry_out-status.ensures.file_at_end k plan workers (same_command (map string_bytes c.args.words.now) c.in-Ok.command _ c.in-Ok.ensures.command is)

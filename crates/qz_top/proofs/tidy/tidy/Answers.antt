@@ -1,6 +1,6 @@
 use Rattle.std.proofs.Common.{◌∙◌, List, ℕ, refl, subst, ap}
 use Rattle.std.specs.Io.KnownBytes.{append_known}
-use Rattle.qz_io.specs.Told.{HasPart}
+use Rattle.qz_io.specs.Told.{HasProperPart}
 use Rattle.qz_top.specs.Tidy.{Tidies}
 use Rattle.qz_top.proofs.AnswerLemmas.{before_writes_nothing, carried_by_text}
 use Rattle.qz_top.proofs.InputLemmas.{ends_late, ends_undone}
@@ -12,7 +12,7 @@ returns-in-Ok-clause-carried_out g c = λ shelf quiet.
     carried_by_text Tidies c.in-Ok.text.items _ _ (tidied_written c.in-Ok.text.items _ shelf c.in-Ok.ensures.made quiet)
     c.write_text.ensures.begun
     (λ e. c.write_text.ensures.ok e ∙ ap (append_known (g.O.Sink.written c.args.out.now)) c.deref.ensures.value)
-    (λ k. subst (λ (text : List ℕ). HasPart (g.O.Sink.written c.args.out.now) text (g.O.Sink.written c.write_text.new.out)) c.deref.ensures.value (c.write_text.ensures.part k))
+    (λ k. subst (λ (text : List ℕ). HasProperPart (g.O.Sink.written c.args.out.now) text (g.O.Sink.written c.write_text.new.out)) c.deref.ensures.value (c.write_text.ensures.part k))
     c.write_text.ensures.failed c.write_text.ensures.answered
 
 pub returns-in-Ok-clause-late : goal.returns-in-Ok-clause-late

@@ -1,6 +1,6 @@
 use Rattle.std.proofs.Common.{◌∙◌, List, ℕ, refl, subst, ap}
 use Rattle.std.specs.Io.KnownBytes.{append_known}
-use Rattle.qz_io.specs.Told.{HasPart}
+use Rattle.qz_io.specs.Told.{HasProperPart}
 use Rattle.qz_top.specs.Trial.{Tries}
 use Rattle.qz_top.proofs.AnswerLemmas.{some_given, memory_ends, carried_by_text}
 use Rattle.qz_top.proofs.trial.trial.Goals as goal
@@ -19,7 +19,7 @@ returns-clause-carried_out g c = λ input shelf calm quiet.
     })
     c.write_text.ensures.begun
     (λ e. c.write_text.ensures.ok e ∙ ap (append_known (g.O.Sink.written c.args.out.now)) c.deref.ensures.value)
-    (λ k. subst (λ (text : List ℕ). HasPart (g.O.Sink.written c.args.out.now) text (g.O.Sink.written c.write_text.new.out)) c.deref.ensures.value (c.write_text.ensures.part k))
+    (λ k. subst (λ (text : List ℕ). HasProperPart (g.O.Sink.written c.args.out.now) text (g.O.Sink.written c.write_text.new.out)) c.deref.ensures.value (c.write_text.ensures.part k))
     c.write_text.ensures.failed c.write_text.ensures.answered
 
 pub returns-in_default-clause-carried_out : goal.returns-in_default-clause-carried_out
