@@ -1,6 +1,7 @@
 //! Shards: circuits in the order in which they came, and their classes.
-ghost use Rattle.std.specs.Prelude.{◌≡◌, ◌<◌, [], length, IfOk, IsTrue};
-ghost use Rattle.qz_circ.specs.Order.{all_circuits};
+ghost use Rattle.std.specs.Prelude.{◌≡◌, ◌+◌, ◌<◌, [], length, All, IfOk, OnOk};
+ghost use Rattle.qz_circ.specs.Order.{all_circuits, circuit_at};
+ghost use Rattle.qz_finger.specs.Fingerprint.{fingerprint};
 ghost use Rattle.qz_shard.specs.Shards.{IsAtHome};
 
 use qz_circ::{Bounds, Memory, Op, Steps, rank, unrank};
@@ -11,14 +12,21 @@ use std::marker::Brand;
 use std::sync::ledger::{Blank, Ledger};
 use std::test::Fail;
 
-// Whether the circuit with this rank belongs into the shard with this number.
-fn is_home(alloc: Global, b: Bounds, probe: Probe, number: u64, r: u64) -> Result<bool, Memory>
+// The probe of the seed 0 for the bounds' qubits.
+fn probe_for(b: Bounds) -> Probe
+    ensures { result ≡ record { seed = 0; q = b.q } }
+{
+    Probe::new(0, b.q())
+}
+
+// The fingerprint of the circuit with this rank.
+fn print_at(alloc: Global, b: Bounds, probe: Probe, r: u64) -> Result<u64, Memory>
     requires rank { r < length (all_circuits b) }
     requires qubits { probe.q ≡ b.q }
-    ensures { IfOk result (λ yes. IsTrue yes → IsAtHome (record { number = number; bounds = b; probe = probe; journal = [] }) r) }
+    ensures { IfOk result (λ print. print ≡ fingerprint probe.seed probe.q (circuit_at b r)) }
 {
     let circuit = unrank(alloc, r, b)?;
-    Ok(probe.finger(&circuit) % 16 == number)
+    Ok(probe.finger(&circuit))
 }
 
 // Adds two circuits, which belong there, to an empty shard, and gives their places.
@@ -49,11 +57,11 @@ fn shard_of(alloc: Global, b: Bounds, first: u64, second: u64) -> Result<Option<
     if first == second || first >= b.circuits() || second >= b.circuits() {
         return Ok(None);
     }
-    let probe = Probe::new(0, b.q());
-    let number = probe.finger(&unrank(alloc, first, b)?) % 16;
-    let first_home = is_home(alloc, b, probe, number, first)?;
-    let second_home = is_home(alloc, b, probe, number, second)?;
-    if !first_home || !second_home {
+    let probe = probe_for(b);
+    let print = print_at(alloc, b, probe, first)?;
+    let other = print_at(alloc, b, probe, second)?;
+    let number = print % 16;
+    if other % 16 != number {
         return Ok(None);
     }
     let mut shard = Shard::new(alloc, number, b, probe);
@@ -91,6 +99,35 @@ fn a_class_rises_in_whatever_order_its_circuits_come(rt: HostRuntime) {
     assert!(rt; both_orders(rt.alloc()) == Some(true));
 }
 
+// Takes a circuit into a shard of earlier ones, if it belongs there.
+fn take_in<L: Ledger>(
+    alloc: Global,
+    shard: &mut Shard,
+    b: Bounds,
+    probe: Probe,
+    number: u64,
+    r: u64,
+    steps: &mut Steps<L>,
+) -> Result<(), Memory>
+    requires rank { r < length (all_circuits b) }
+    requires qubits { probe.q ≡ b.q }
+    requires bounds { shard.old.bounds ≡ b }
+    requires probe { shard.old.probe ≡ probe }
+    requires number { shard.old.number ≡ number }
+    requires earlier { All (λ t. t < r) shard.old.journal }
+    ensures bounds { OnOk result (shard.new.bounds ≡ b) }
+    ensures probe { OnOk result (shard.new.probe ≡ probe) }
+    ensures number { OnOk result (shard.new.number ≡ number) }
+    ensures earlier { OnOk result (All (λ t. t < r + 1) shard.new.journal) }
+{
+    let print = print_at(alloc, b, probe, r)?;
+    if print % 16 == number {
+        shard.add_with_print(r, print, steps)?;
+        return Ok(());
+    }
+    Ok(())
+}
+
 // A shard with all circuits within the bounds that belong there, by rank.
 fn filled<L: Ledger>(
     alloc: Global,
@@ -108,11 +145,7 @@ fn filled<L: Ledger>(
     let mut steps = Steps::<L>::new(blank);
     let mut shard = Shard::new(alloc, number, b, probe);
     for r in 0..b.circuits() {
-        let circuit = unrank(alloc, r, b)?;
-        let print = probe.finger(&circuit);
-        if print % 16 == number {
-            shard.add_with_print(r, print, &mut steps)?;
-        }
+        take_in(alloc, &mut shard, b, probe, number, r, &mut steps)?;
     }
     Ok(shard)
 }
@@ -120,7 +153,7 @@ fn filled<L: Ledger>(
 // How many circuits and classes the sixteen shards of all circuits within the bounds have, and whether no shard has more
 // fingerprints than classes.
 fn sizes(alloc: Global, b: Bounds) -> Result<([u64; 2], bool), Memory> {
-    let probe = Probe::new(0, b.q());
+    let probe = probe_for(b);
     let mut entries = 0u64;
     let mut classes = 0u64;
     let mut few = true;

@@ -60,8 +60,8 @@ impl Shard {
     }
 
     /// Adds a rank to the end of the journal, and answers its place there, counted from 0. It is the rank of a circuit within the
-    /// bounds, is not there, and the circuit's fingerprint has the shard's number as its remainder by 16. Circuits are compared only with
-    /// classes of the same fingerprint, each at most once. After an error nothing has changed but the steps.
+    /// bounds, is not there, and the circuit's fingerprint has the shard's number as its remainder by 16. The steps count
+    /// comparisons, which are at most as many as there are classes with its fingerprint. After an error nothing has changed but the steps.
     pub fn add<L: Ledger>(&mut self, r: u64, steps: &mut Steps<L>) -> Result<u64, Memory>
         requires listed { r < length (all_circuits self.old.bounds) }
         requires new { Contains self.old.journal r → ⊥ }

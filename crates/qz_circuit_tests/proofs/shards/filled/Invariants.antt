@@ -1,0 +1,11 @@
+use Rattle.std.proofs.Common.{◌≡◌, ◌<◌, All}
+use Rattle.qz_circuit_tests.proofs.shards.filled.Given as goal
+
+-- the shard has ranks below the next one
+abbrev pub invariant-loop-r : goal.invariant-loop-r
+invariant-loop-r g l = record {
+  bounds : l.shard.bounds ≡ l.b;
+  probe : l.shard.probe ≡ l.probe;
+  number : l.shard.number ≡ l.number;
+  earlier : All (λ t. t < l.r) l.shard.journal;
+}
