@@ -4,3 +4,4 @@ pub mod SideSteps
 pub mod SidesAre
 pub mod Sorting
 pub mod Children
+pub mod Renamed

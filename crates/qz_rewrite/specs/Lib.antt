@@ -1,2 +1,3 @@
 pub mod SoundClasses
 pub mod Sides
+pub mod Renaming

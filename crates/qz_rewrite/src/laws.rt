@@ -1,13 +1,14 @@
 //! Laws of rewriting, each the contract of a function with an empty body.
-ghost use Rattle.std.specs.Prelude.{◌≡◌, ℕ, ◌+◌, ◌≤◌, List, length, Contains};
+ghost use Rattle.std.specs.Prelude.{◌≡◌, ℕ, ◌+◌, ◌<◌, ◌≤◌, true, List, length, Contains};
 ghost use Rattle.std.specs.List.{AllByRecursion};
 ghost use Rattle.qz_circ.specs.Circuit.{Circuit, IsOn};
 ghost use Rattle.qz_circ.specs.Equivalence.{Equivalent};
 ghost use Rattle.qz_circ.specs.Gathering.{marked, selected};
 ghost use Rattle.qz_circ.specs.Instances.{bound_instance, IsBinding, IsBoundCircuit};
-ghost use Rattle.qz_circ.specs.Places.{PlaceParts, places};
+ghost use Rattle.qz_circ.specs.Places.{PlaceParts, places, is_usable};
 ghost use Rattle.qz_circ.specs.ProgramCircuits.{ProgramCircuit, IsProgramGate, EquivalentProgramCircuits};
-ghost use Rattle.qz_circ.specs.Replacement.{replaced, children};
+ghost use Rattle.qz_circ.specs.Replacement.{replaced, children_by, children};
+ghost use Rattle.qz_rewrite.specs.Renaming.{renamed};
 ghost use Rattle.qz_rewrite.specs.SoundClasses.{AreSoundClasses};
 
 /// At each of a rule's places the gates are the instance of its left side: different qubits stand for different ones, all of
@@ -36,4 +37,9 @@ pub fn steps_keep_the_unitary()
 #[tactic(auto, using(crate::proofs::FoundPlaces::rewritten_length))]
 pub fn rules_change_the_length_by_their_sides()
     ensures { (left right : Circuit) (c : ProgramCircuit) (place : PlaceParts) → Contains (places left right c) place → length (replaced c right place) + length left ≡ length c + length (bound_instance place.binding right) }
+{}
+
+/// A rule with two of its qubits exchanged has the same children, where both are usable.
+pub fn renamed_rules_have_the_same_children()
+    ensures { (s : ℕ) (left right : Circuit) (c : ProgramCircuit) → s < 2 → IsOn 3 3 left → IsOn 3 3 right → AllByRecursion (IsProgramGate 64) c → is_usable left right ≡ true → is_usable (renamed s left) (renamed s right) ≡ true → children_by (renamed s left) (renamed s right) c ≡ children_by left right c }
 {}

@@ -6,3 +6,6 @@ pub mod RoundLaws
 pub mod ChildLaws
 pub mod PreparedLaws
 pub mod ClassLimits
+pub mod RenamedRules
+pub mod SameCircuits
+pub mod TableLaws

@@ -2,20 +2,19 @@
 use Rattle.std.proofs.Common.{◌≡◌, ℕ, zero, suc, ◌+◌, ◌<◌, ◌≤◌, ◌==◌, ◌&&◌, Bool, true, false, not, cond, List, [], ◌∷◌, ◌++◌, map, filter, length, get_or, append_assoc, append-nil, refl, sym, ap, subst, ◌∙◌, nat_lt, arith}
 use Rattle.std.specs.List.{AllByRecursion, flat_map, range_with_len}
 use Rattle.qz_circ.specs.Circuit.{Circuit, IsOn, below}
-use Rattle.qz_circ.specs.Places.{is_connected, all_places, places}
+use Rattle.qz_circ.specs.Places.{is_connected}
 use Rattle.qz_circ.specs.ProgramCircuits.{ProgramCircuit}
 use Rattle.qz_circ.specs.Replacement.{replaced, numbered, children_by, children_in}
 use Rattle.qz_circ.proofs.RisingLists.{each_weaker, each-append, each-filter, each-range}
 use Rattle.qz_circ.proofs.TwoPlaces.{flat_map-below}
 use Rattle.qz_match.specs.Occurring.{occur_in}
-use Rattle.qz_match.specs.Walks.{IsWalk}
-use Rattle.qz_match.proofs.UsableRules.{no_places, its_places}
+use Rattle.qz_match.proofs.UsableRules.{no_places}
 use Rattle.qz_search.specs.declared.prepared.LeftSide.{LeftSide}
 use Rattle.std.specs.Global.{Vec}
 use Rattle.std.proofs.lemmas.List.{length-map}
 use Rattle.qz_search.proofs.ClassLimits.{at_number}
 use Rattle.qz_circ.specs.declared.circuit.Op.{Op}
-use Rattle.qz_search.specs.PreparedRules.{rule_circuits, goes_with, children_with, children_from, IsLeftSide, ArePrepared, IsPreparedClass, AreRuleSides}
+use Rattle.qz_search.specs.PreparedRules.{rule_circuits, goes_with, children_with, children_from, IsLeftSide, ArePrepared, AreRuleSides}
 
 -- ---- lists
 
@@ -117,15 +116,14 @@ right_sides members i =
     second true b h = sym h
     second false b h = cc
 
-pub one_side : (members : List Circuit) (i : ℕ) (sides : List LeftSide) (side : LeftSide) → i < length members → side.number ≡ i → IsWalk (numbered members i) side.walk → true ≡ (nat_lt 0 (length (numbered members i)) && is_connected (numbered members i))
+pub one_side : (members : List Circuit) (i : ℕ) (sides : List LeftSide) (side : LeftSide) → i < length members → side.number ≡ i → true ≡ (nat_lt 0 (length (numbered members i)) && is_connected (numbered members i))
     → side.rights.items ≡ filter (goes_with members i) (below (length members)) → ArePrepared members i sides → ArePrepared members (i + 1) (sides ++ side ∷ [])
-one_side members i sides side within number walk walked rights h =
+one_side members i sides side within number walked rights h =
     let N : ℕ → Type 0 = λ k. IsLeftSide members side in
     let R : List ℕ → Type 0 = λ js. AllByRecursion (λ j. (j < length members) × (true ≡ occur_in (numbered members side.number) (numbered members j))) js in
     let own : IsLeftSide members side =
     record {
       within = omega arith;
-      walk = subst (λ k. IsWalk (numbered members k) side.walk) (sym number) walk;
       connected = subst (λ k. true ≡ (nat_lt 0 (length (numbered members k)) && is_connected (numbered members k))) (sym number) walked;
       rights = subst R (sym rights) (subst (λ k. AllByRecursion (λ j. (j < length members) × (true ≡ occur_in (numbered members k) (numbered members j))) (filter (goes_with members i) (below (length members)))) (sym number) (right_sides members i));
     } in
@@ -142,9 +140,9 @@ pub none_prepared : (members : List Circuit) → ArePrepared members 0 []
 none_prepared members = record { each = tt; same = λ c. refl }
 
 -- the children by a class are those by its left sides
-pub class_children : (members : List Circuit) (sides : List LeftSide) (c : ProgramCircuit) → IsPreparedClass members sides → children_in members c ≡ flat_map (λ side. children_from members side c) sides
+pub class_children : (members : List Circuit) (sides : List LeftSide) (c : ProgramCircuit) → ArePrepared members (length members) sides → children_in members c ≡ flat_map (λ side. children_from members side c) sides
 unfolding children_in
-class_children members sides c h = sym (h.prepared.same c)
+class_children members sides c h = sym (h.same c)
 
 -- ---- members that are held in vectors
 
@@ -170,8 +168,3 @@ rights_among vs i rights e = e ∙ ap (λ n. filter (goes_with (rule_circuits vs
 
 pub item_of : {A : Type 0} (P : A → Type 0) (xs : List A) (i : ℕ) (x : A) → AllByRecursion P xs → i < length xs → x ≡ get_or xs i x → P x
 item_of P xs i x each less is = subst P (sym is) (at_number P x xs i each less)
-
--- the places of a left side are those with each of its right sides
-pub side_places : (members : List Circuit) (side : LeftSide) (i j : ℕ) (c : ProgramCircuit) → IsLeftSide members side → i < length side.rights.items → j ≡ get_or side.rights.items i j → places (numbered members side.number) (numbered members j) c ≡ all_places (numbered members side.number) c
-side_places members side i j c h less is =
-    its_places (numbered members side.number) (numbered members j) c h.connected (item_of (λ k. (k < length members) × (true ≡ occur_in (numbered members side.number) (numbered members k))) side.rights.items i j h.rights less is).1

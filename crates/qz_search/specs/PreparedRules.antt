@@ -9,7 +9,6 @@ use Rattle.qz_circ.specs.Places.{is_connected}
 use Rattle.qz_circ.specs.ProgramCircuits.{ProgramCircuit}
 use Rattle.qz_circ.specs.Replacement.{numbered, children_by}
 use Rattle.qz_match.specs.Occurring.{occur_in}
-use Rattle.qz_match.specs.Walks.{IsWalk}
 use Rattle.qz_search.specs.declared.prepared.LeftSide.{LeftSide}
 
 -- the circuits that these vectors hold
@@ -34,10 +33,9 @@ abbrev pub children_from : List Circuit → LeftSide → ProgramCircuit → List
 children_from members side c =
     flat_map (λ j. children_by (numbered members side.number) (numbered members j) c) side.rights.items
 
--- the walk of a left side leads through its gates, and its right sides are members that are usable with it
+-- a left side is connected, and its right sides are members that are usable with it
 pub record IsLeftSide (members : List Circuit) (side : LeftSide) : Type 0 where
   pub within : side.number < length members
-  pub walk : IsWalk (numbered members side.number) side.walk
   pub connected : true ≡ (nat_lt 0 (length (numbered members side.number)) && is_connected (numbered members side.number))
   pub rights : AllByRecursion (λ j. (j < length members) × (true ≡ occur_in (numbered members side.number) (numbered members j))) side.rights.items
 
@@ -45,8 +43,3 @@ pub record IsLeftSide (members : List Circuit) (side : LeftSide) : Type 0 where
 pub record ArePrepared (members : List Circuit) (n : ℕ) (sides : List LeftSide) : Type 0 where
   pub each : AllByRecursion (IsLeftSide members) sides
   pub same : (c : ProgramCircuit) → flat_map (λ side. children_from members side c) sides ≡ flat_map (λ i. children_with members i c) (below n)
-
--- the left sides are those of all members
-pub record IsPreparedClass (members : List Circuit) (sides : List LeftSide) : Type 0 where
-  pub fit : AreRuleSides members
-  pub prepared : ArePrepared members (length members) sides

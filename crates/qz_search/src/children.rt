@@ -1,17 +1,18 @@
 //! Offering a queue what a circuit becomes by one step with rules.
-ghost use Rattle.std.specs.Prelude.{◌≡◌, ℕ, ◌<◌, ◌≤◌, ◌&&◌, [], ◌∷◌, List, length, true, nat_lt, Contains, IsTrue, OnOk};
+ghost use Rattle.std.specs.Prelude.{◌≡◌, ◌≤◌, [], ◌∷◌, List, length, Contains, IsTrue, OnOk};
 ghost use Rattle.std.specs.List.{AllByRecursion, filter};
 ghost use Rattle.qz_circ.specs.Circuit.{IsOn};
-ghost use Rattle.qz_circ.specs.Places.{is_connected, places, all_places};
+ghost use Rattle.qz_circ.specs.Places.{places};
 ghost use Rattle.qz_circ.specs.ProgramCircuits.{ProgramCircuit, IsProgramGate, cost};
 ghost use Rattle.qz_circ.specs.Queue.{IsQueue};
-ghost use Rattle.qz_circ.specs.Replacement.{replaced, numbered, children_by, children_in, children};
+ghost use Rattle.qz_circ.specs.Replacement.{replaced, children_by, children};
 ghost use Rattle.qz_match.specs.Neighbours.{AreNeighboursOf};
 ghost use Rattle.qz_search.specs.Offers.{is_new, offered_to};
-ghost use Rattle.qz_search.specs.PreparedRules.{rule_circuits, AreRuleSides, children_from, IsLeftSide};
+ghost use Rattle.qz_search.specs.Sides.{children_of, IsSide};
 
 use crate::offer::offer_child;
-use crate::prepared::{LeftSide, Prepared, PreparedClass};
+use crate::prepared::Prepared;
+use crate::table::Side;
 use qz_circ::{Inst, Memory, Op};
 use qz_match::{Neighbours, Place, places_of};
 use qz_queue::{Queue, Seen};
@@ -91,30 +92,6 @@ fn offer_right(
     Ok(())
 }
 
-// Offers what a circuit becomes by two members of a class, the first one being the left side.
-fn offer_pair(
-    alloc: Global,
-    seen: &Seen,
-    most: u64,
-    c: &[Inst],
-    members: &[Vec<Op>],
-    i: usize,
-    j: usize,
-    found: &[Place],
-    queue: &mut Queue,
-) -> Result<(), Memory>
-    requires lawful { IsQueue queue.old }
-    requires gates { AllByRecursion (IsProgramGate 64) c.now }
-    requires short { length c.now ≤ 20004 }
-    requires fit { AreRuleSides (rule_circuits members.now) }
-    requires left { i < length members.now }
-    requires right { j < length members.now }
-    requires found { found.now ≡ places (numbered (rule_circuits members.now) i) (numbered (rule_circuits members.now) j) c.now }
-    ensures { OnOk result (queue.new ≡ offered_to queue.old (filter (is_new seen.now most) (children_by (numbered (rule_circuits members.now) i) (numbered (rule_circuits members.now) j) c.now))) }
-{
-    offer_right(alloc, seen, most, c, &members[i], &members[j], found, queue)
-}
-
 // Offers what a circuit becomes by one left side, with each of its right sides.
 fn offer_side(
     alloc: Global,
@@ -122,57 +99,21 @@ fn offer_side(
     most: u64,
     c: &[Inst],
     neighbours: &Neighbours,
-    members: &[Vec<Op>],
-    side: &LeftSide,
+    side: &Side,
     queue: &mut Queue,
 ) -> Result<(), Memory>
     requires lawful { IsQueue queue.old }
     requires gates { AllByRecursion (IsProgramGate 64) c.now }
     requires short { length c.now ≤ 20004 }
     requires links { AreNeighboursOf c.now neighbours.now }
-    requires fit { AreRuleSides (rule_circuits members.now) }
-    requires side { IsLeftSide (rule_circuits members.now) side.now }
-    ensures { OnOk result (queue.new ≡ offered_to queue.old (filter (is_new seen.now most) (children_from (rule_circuits members.now) side.now c.now))) }
+    requires side { IsSide side.now }
+    ensures { OnOk result (queue.new ≡ offered_to queue.old (filter (is_new seen.now most) (children_of side.now c.now))) }
 {
-    let left = &members[side.number];
+    let left = side.left.as_slice();
     let found = places_of(alloc, left, &side.walk, c, neighbours)?;
     let rights = side.rights.as_slice();
-    for j in rights {
-        offer_pair(
-            alloc,
-            seen,
-            most,
-            c,
-            members,
-            side.number,
-            *j,
-            &found,
-            queue,
-        )?;
-    }
-    Ok(())
-}
-
-// Offers what a circuit becomes by one class.
-fn offer_class(
-    alloc: Global,
-    seen: &Seen,
-    most: u64,
-    c: &[Inst],
-    neighbours: &Neighbours,
-    class: &PreparedClass,
-    queue: &mut Queue,
-) -> Result<(), Memory>
-    requires lawful { IsQueue queue.old }
-    requires gates { AllByRecursion (IsProgramGate 64) c.now }
-    requires short { length c.now ≤ 20004 }
-    requires links { AreNeighboursOf c.now neighbours.now }
-    ensures { OnOk result (queue.new ≡ offered_to queue.old (filter (is_new seen.now most) (children_in class.now c.now))) }
-{
-    let members = class.members();
-    let sides = class.sides();
-    for side in sides {
-        offer_side(alloc, seen, most, c, neighbours, members, side, queue)?;
+    for right in rights {
+        offer_right(alloc, seen, most, c, left, right, &found, queue)?;
     }
     Ok(())
 }
@@ -194,9 +135,9 @@ pub(crate) fn offer_children(
     ensures { OnOk result (queue.new ≡ offered_to queue.old (filter (is_new seen.now most) (children rules.now c.now))) }
 {
     neighbours.renew(c)?;
-    let classes = rules.classes();
-    for class in classes {
-        offer_class(alloc, seen, most, c, neighbours, class, queue)?;
+    let sides = rules.sides();
+    for side in sides {
+        offer_side(alloc, seen, most, c, neighbours, side, queue)?;
     }
     Ok(())
 }

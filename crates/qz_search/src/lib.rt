@@ -6,7 +6,9 @@ pub mod laws;
 mod offer;
 pub mod plan;
 mod prepared;
+mod renaming;
 pub mod rounds;
+mod table;
 
 pub use plan::{Plan, PlanFault};
 pub use rounds::search;

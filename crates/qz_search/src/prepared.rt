@@ -1,58 +1,63 @@
-//! Rules as a search uses them: the members of each class as circuits, and for each that can be a left side a walk over it and
-//! the members that can be a right side with it.
+//! Rules as a search uses them: the members of each class as circuits, and a table of the rules that these make.
 ghost use Rattle.std.specs.Prelude.{◌≡◌, ℕ, ◌+◌, ◌<◌, ◌≤◌, ◌++◌, ◌∷◌, [], List, length, filter, cond, IfOk, OnOk};
-ghost use Rattle.std.specs.List.{AllByRecursion};
-ghost use Rattle.qz_circ.specs.Circuit.{IsOn, below};
+ghost use Rattle.qz_circ.specs.Circuit.{below};
 ghost use Rattle.qz_circ.specs.RuleFiles.{numbered_class};
+ghost use Rattle.qz_circ.specs.ProgramCircuits.{ProgramCircuit};
+ghost use Rattle.qz_circ.specs.Replacement.{numbered, children_by, children_in, children};
 ghost use Rattle.qz_rewrite.specs.SoundClasses.{AreSoundClasses};
-ghost use Rattle.qz_search.specs.PreparedRules.{rule_circuits, AreRuleSides, goes_with, ArePrepared, IsPreparedClass};
+ghost use Rattle.qz_search.specs.PreparedRules.{rule_circuits, AreRuleSides, goes_with, children_from, IsLeftSide, ArePrepared};
+ghost use Rattle.qz_search.specs.Tables.{IsRule, AreRulesOf};
+ghost use Rattle.qz_search.specs.Sides.{IsTable};
 
+use crate::renaming::{Rule, settled};
+use crate::table::{Side, table_of};
 use qz_circ::{Memory, Op};
 use qz_match::{Walk, covers};
 use qz_rulefile::Rules;
 use std::alloc::Global;
 use std::marker::Model;
 
-// A left side: the number of the member, a walk over it, and the numbers of the members that can be a right side.
+// A left side: the number of the member, and the numbers of the members that can be a right side.
 #[derive(Drop)]
 pub(crate) struct LeftSide {
     pub(crate) number: usize,
-    pub(crate) walk: Walk,
     pub(crate) rights: Vec<usize>,
 }
 
-// A class: its members, and its left sides.
+// The members of a class.
 #[derive(Drop)]
-pub(crate) struct PreparedClass {
+struct Class {
     members: Vec<Vec<Op>>,
-    sides: Vec<LeftSide>,
 }
 
-impl Model for PreparedClass {
+impl Model for Class {
     ghost use Rattle.std.specs.Prelude.{List};
     ghost use Rattle.qz_circ.specs.Circuit.{Circuit};
-    ghost use Rattle.qz_search.specs.PreparedRules.{rule_circuits, IsPreparedClass};
+    ghost use Rattle.qz_search.specs.PreparedRules.{rule_circuits};
 
     ghost Value = { List Circuit };
 
     ghost view = { λ p. rule_circuits p.members.items };
-
-    ghost invariant = { λ p. IsPreparedClass (rule_circuits p.members.items) p.sides.items };
 }
 
-// The classes of rules.
+// The classes of rules, and the table of these.
 #[derive(Drop)]
 pub struct Prepared {
-    classes: Vec<PreparedClass>,
+    classes: Vec<Class>,
+    sides: Vec<Side>,
 }
 
 impl Model for Prepared {
     ghost use Rattle.std.specs.Prelude.{List};
     ghost use Rattle.qz_circ.specs.Circuit.{Circuit};
+    ghost use Rattle.qz_circ.specs.Replacement.{children};
+    ghost use Rattle.qz_search.specs.Sides.{IsTable};
 
     ghost Value = { List (List Circuit) };
 
     ghost view = { λ p. p.classes.items };
+
+    ghost invariant = { λ p. IsTable p.sides.items (children p.classes.items) };
 }
 
 // Whether a member can be a right side with another one as the left side.
@@ -101,19 +106,15 @@ fn add_side(
     requires prepared { ArePrepared (rule_circuits members.now) i sides.old.items }
     ensures { OnOk result (ArePrepared (rule_circuits members.now) (i + 1) sides.new.items) }
 {
-    let walk = match Walk::of(&members[i]) {
-        Some(walk) => walk,
-        None => return Ok(()),
-    };
+    let walk = Walk::of(&members[i]);
+    if walk.is_none() {
+        return Ok(());
+    }
     let rights = rights_of(alloc, members, i)?;
     if rights.is_empty() {
         return Ok(());
     }
-    let side = LeftSide {
-        number: i,
-        walk,
-        rights,
-    };
+    let side = LeftSide { number: i, rights };
     if sides.push(side).is_err() {
         return Err(Memory);
     }
@@ -146,29 +147,101 @@ fn members_of(alloc: Global, rules: &Rules, c: u64) -> Result<Vec<Vec<Op>>, Memo
     Ok(members)
 }
 
-impl PreparedClass {
-    // These members with their left sides.
-    fn of(alloc: Global, members: Vec<Vec<Op>>) -> Result<PreparedClass, Memory>
-        requires { AreRuleSides (rule_circuits members.items) }
-        ensures { IfOk result (λ p. p ≡ rule_circuits members.items) }
-    {
-        let sides = sides_of(alloc, &members)?;
-        Ok(PreparedClass { members, sides })
+// A copy of a member.
+fn copied(alloc: Global, c: &[Op]) -> Result<Vec<Op>, Memory>
+    ensures { IfOk result (λ copy. copy.items ≡ c.now) }
+{
+    match Vec::from_slice(alloc, c) {
+        Ok(copy) => Ok(copy),
+        Err(_) => Err(Memory),
     }
+}
 
-    // The members as circuits.
-    pub(crate) fn members(&self) -> &[Vec<Op>]
-        ensures { rule_circuits result.now ≡ self.now }
-    {
-        &self.members
+// Adds a rule, with its qubits in order.
+fn add_rule(alloc: Global, left: &[Op], right: &[Op], rules: &mut Vec<Rule>) -> Result<(), Memory>
+    requires { IsRule left.now right.now }
+    ensures { (before : ProgramCircuit → List ProgramCircuit) → AreRulesOf rules.old.items before → OnOk result (AreRulesOf rules.new.items (λ c. before c ++ children_by left.now right.now c)) }
+{
+    let rule = Rule {
+        left: copied(alloc, left)?,
+        right: copied(alloc, right)?,
+    };
+    if rules.push(settled(alloc, rule)?).is_err() {
+        return Err(Memory);
     }
+    Ok(())
+}
 
-    // The left sides.
-    pub(crate) fn sides(&self) -> &[LeftSide]
-        ensures { IsPreparedClass self.now result.now }
-    {
-        &self.sides
+// Adds the rule of two members, the first one being the left side.
+fn add_pair(
+    alloc: Global,
+    members: &[Vec<Op>],
+    i: usize,
+    j: usize,
+    rules: &mut Vec<Rule>,
+) -> Result<(), Memory>
+    requires left { i < length members.now }
+    requires right { j < length members.now }
+    requires rule { IsRule (numbered (rule_circuits members.now) i) (numbered (rule_circuits members.now) j) }
+    ensures { (before : ProgramCircuit → List ProgramCircuit) → AreRulesOf rules.old.items before → OnOk result (AreRulesOf rules.new.items (λ c. before c ++ children_by (numbered (rule_circuits members.now) i) (numbered (rule_circuits members.now) j) c)) }
+{
+    add_rule(alloc, &members[i], &members[j], rules)
+}
+
+// Adds the rules with a left side.
+fn add_rules(
+    alloc: Global,
+    members: &[Vec<Op>],
+    side: &LeftSide,
+    rules: &mut Vec<Rule>,
+) -> Result<(), Memory>
+    requires fit { AreRuleSides (rule_circuits members.now) }
+    requires side { IsLeftSide (rule_circuits members.now) side.now }
+    ensures { (before : ProgramCircuit → List ProgramCircuit) → AreRulesOf rules.old.items before → OnOk result (AreRulesOf rules.new.items (λ c. before c ++ children_from (rule_circuits members.now) side.now c)) }
+{
+    let rights = side.rights.as_slice();
+    for j in rights {
+        add_pair(alloc, members, side.number, *j, rules)?;
     }
+    Ok(())
+}
+
+// Adds the rules of a class.
+fn add_class(alloc: Global, members: &[Vec<Op>], rules: &mut Vec<Rule>) -> Result<(), Memory>
+    requires { AreRuleSides (rule_circuits members.now) }
+    ensures { (before : ProgramCircuit → List ProgramCircuit) → AreRulesOf rules.old.items before → OnOk result (AreRulesOf rules.new.items (λ c. before c ++ children_in (rule_circuits members.now) c)) }
+{
+    let sides = sides_of(alloc, members)?;
+    let listed = sides.as_slice();
+    for side in listed {
+        add_rules(alloc, members, side, rules)?;
+    }
+    Ok(())
+}
+
+// Puts a class behind the others.
+fn push_class(members: Vec<Vec<Op>>, classes: &mut Vec<Class>) -> Result<(), Memory>
+    ensures { OnOk result (classes.new.items ≡ classes.old.items ++ rule_circuits members.items ∷ []) }
+{
+    if classes.push(Class { members }).is_err() {
+        return Err(Memory);
+    }
+    Ok(())
+}
+
+// Takes the next class, and adds its rules.
+fn take_class(
+    alloc: Global,
+    members: Vec<Vec<Op>>,
+    classes: &mut Vec<Class>,
+    rules: &mut Vec<Rule>,
+) -> Result<(), Memory>
+    requires { AreRuleSides (rule_circuits members.items) }
+    ensures classes { OnOk result (classes.new.items ≡ classes.old.items ++ rule_circuits members.items ∷ []) }
+    ensures rules { AreRulesOf rules.old.items (children classes.old.items) → OnOk result (AreRulesOf rules.new.items (children classes.new.items)) }
+{
+    add_class(alloc, &members, rules)?;
+    push_class(members, classes)
 }
 
 impl Prepared {
@@ -179,19 +252,19 @@ impl Prepared {
     {
         let bounds = rules.bounds();
         let mut classes = Vec::new(alloc);
+        let mut pairs = Vec::new(alloc);
         for c in 0..rules.len() {
-            let class = PreparedClass::of(alloc, members_of(alloc, rules, c)?)?;
-            if classes.push(class).is_err() {
-                return Err(Memory);
-            }
+            let members = members_of(alloc, rules, c)?;
+            take_class(alloc, members, &mut classes, &mut pairs)?;
         }
-        Ok(Prepared { classes })
+        let sides = table_of(alloc, pairs)?;
+        Ok(Prepared { classes, sides })
     }
 
-    // The classes.
-    pub(crate) fn classes(&self) -> &[PreparedClass]
-        ensures { result.now ≡ self.now }
+    // The table.
+    pub(crate) fn sides(&self) -> &[Side]
+        ensures { IsTable result.now (children self.now) }
     {
-        &self.classes
+        &self.sides
     }
 }

@@ -1,22 +1,27 @@
-use Rattle.std.proofs.Common.{List, ap, ◌∙◌, arith}
-use Rattle.std.specs.List.{filter, flat_map}
-use Rattle.qz_circ.specs.Circuit.{Circuit}
+use Rattle.std.proofs.Common.{List, ◌∙◌, arith}
 use Rattle.qz_circ.specs.ProgramCircuits.{ProgramCircuit}
-use Rattle.qz_circ.specs.Replacement.{children_in, children}
-use Rattle.qz_search.specs.Offers.{is_new, offered_to}
+use Rattle.qz_circ.specs.Replacement.{children}
+use Rattle.qz_search.specs.declared.table.Side.{Side}
+use Rattle.qz_search.specs.Offers.{is_new}
+use Rattle.qz_search.specs.Sides.{children_of, IsSide}
 use Rattle.qz_search.proofs.Offering.{each_step, each_end}
+use Rattle.qz_search.proofs.PreparedLaws.{item_of}
+use Rattle.qz_search.proofs.TableLaws.{table_offered}
 use Rattle.qz_search.proofs.children.offer_children.Goals as goal
 
-pub loop-class-preserved : goal.loop-class-preserved
-loop-class-preserved c =
-    let next : List Circuit → List ProgramCircuit = λ members. children_in members c.args.c.now in
-    each_step (is_new c.args.seen.now c.args.most) next c.classes-classes.result.now c.loop-class.queue c.args.queue.now c.offer_class.new.queue c.loop-class.class-index c.class-item.result c.loop-class.invariant c.loop-class-test.true c.class-item.is c.in_ok-offer_class.ensures
+pub offer_side-requires-clause-side : goal.offer_side-requires-clause-side
+offer_side-requires-clause-side c =
+    item_of IsSide c.sides-sides.result.now c.loop-side.side-index c.side-item.result c.sides-sides.ensures.each c.loop-side-test.true c.side-item.is
+
+pub loop-side-preserved : goal.loop-side-preserved
+loop-side-preserved c =
+    let next : Side → List ProgramCircuit = λ side. children_of side c.args.c.now in
+    each_step (is_new c.args.seen.now c.args.most) next c.sides-sides.result.now c.loop-side.queue c.args.queue.now c.offer_side.new.queue c.loop-side.side-index c.side-item.result c.loop-side.invariant c.loop-side-test.true c.side-item.is c.in_ok-offer_side.ensures
 
 pub returns : goal.returns
-unfolding children
 returns c =
-    let next : List Circuit → List ProgramCircuit = λ members. children_in members c.args.c.now in
+    let next : Side → List ProgramCircuit = λ side. children_of side c.args.c.now in
     let test = is_new c.args.seen.now c.args.most in
-    let over = c.loop-class-test.false in
-    each_end test next c.classes-classes.result.now c.loop-class.queue c.args.queue.now c.loop-class.class-index c.loop-class.invariant (omega arith)
-    ∙ ap (λ classes. offered_to c.args.queue.now (filter test (flat_map next classes))) c.classes-classes.ensures
+    let over = c.loop-side-test.false in
+    each_end test next c.sides-sides.result.now c.loop-side.queue c.args.queue.now c.loop-side.side-index c.loop-side.invariant (omega arith)
+    ∙ table_offered c.sides-sides.result.now (children c.args.rules.now) c.args.c.now c.args.queue.now c.args.seen.now c.args.most c.requires.gates c.sides-sides.ensures
