@@ -15,7 +15,7 @@ use Rattle.qz_circ.proofs.CircuitPlaces.{circuit_at-within, Contains-map}
 use Rattle.qz_circ.proofs.RankLemmas.{rank-circuit_at, rank_listed, last_gate, all_few}
 use Rattle.qz_repgen.specs.Candidate.{AreOfOneLength, IsCandidate, IsInRow, AddsRow}
 use Rattle.qz_circ.proofs.ClassLaws.{Rises}
-use Rattle.qz_repgen.proofs.Generation.{circuit_is}
+use Rattle.qz_repgen.proofs.RankLaws.{circuit_is}
 use Rattle.qz_repgen.proofs.LowerLaws.{ranks_are_order}
 use Rattle.qz_repgen.proofs.RisingRuns.{increasing_from_rises, rises-append, Contains-from_map}
 use Rattle.qz_repgen.proofs.RankRows.{some_rank, row_listed, longer, last_rank, first_rank_of_one, first_rank}

@@ -8,7 +8,7 @@ use Rattle.qz_circ.proofs.CircuitPlaces.{circuit_at-within, within-drop, within-
 use Rattle.qz_circ.proofs.GateNumbers.{circuit_below}
 use Rattle.qz_circ.proofs.MoreParameters.{on_with_more}
 use Rattle.qz_circ.proofs.RankLemmas.{circuit_at-rank, rank_listed, rank-circuit_at, before_by_rank}
-use Rattle.qz_repgen.proofs.Generation.{RanksAreOrder}
+use Rattle.qz_repgen.proofs.RankLaws.{RanksAreOrder}
 
 -- ranks are places in the order of the circuits within lawful limits
 pub ranks_are_order : (b : Limits) → IsLawful b → RanksAreOrder b

@@ -1,38 +1,24 @@
--- The steps of a generation from one number of gates to the next.
-use Rattle.std.proofs.Common.{◌≡◌, ℕ, ◌+◌, ◌-◌, ◌<◌, ◌≤◌, Bool, true, false, List, [], ◌∷◌, length, get_or, drop, cond, inl, inr, refl, sym, ap, subst, ◌∙◌, arith, length-drop, length-take, map, true≢false, add-one}
-use Rattle.std.specs.Prelude.{Contains, filter, ◌==◌}
-use Rattle.std.specs.List.{AllByRecursion}
+-- The candidates of the representatives of k gates are the kept circuits of one gate more.
+use Rattle.std.proofs.Common.{◌≡◌, ℕ, zero, suc, ◌+◌, ◌-◌, ◌<◌, ◌≤◌, List, [], length, ◌⊎◌, inl, inr, refl, sym, ap, subst, ◌∙◌, arith, length-drop, length-take}
+use Rattle.std.specs.Prelude.{Contains}
 use Rattle.std.proofs.Math.Nat.{eq-or-lt_of_le}
-use Rattle.std.proofs.Math.Seq.{drop-cons}
 use Rattle.std.proofs.lemmas.Bool.{cases_lt}
-use Rattle.std.proofs.lemmas.Bool.Decides.{Decides-eqb}
-use Rattle.std.proofs.lemmas.List.Kept.{AllPairs-from_increasing, AllPairs-filter}
 use Rattle.qz_circ.specs.Circuit.{Circuit, Limits, Within}
 use Rattle.qz_circ.specs.Bounds.{IsLawful}
 use Rattle.qz_circ.specs.Order.{all_circuits, rank, circuit_at}
-use Rattle.qz_circ.specs.Classes.{IsRepresentative, IsKept, IsRepresentativeRank, IsMemberRank, ListsExactly, without_first, without_last}
+use Rattle.qz_circ.specs.Classes.{IsRepresentative, IsKept, ListsExactly, without_first, without_last}
 use Rattle.qz_circ.proofs.CircuitPlaces.{circuit_at-zero}
-use Rattle.qz_circ.proofs.ClassLaws.{contains_cases, contains_first, contains_rest, rises_tail, first_below}
-use Rattle.qz_circ.proofs.RisingLists.{each_weaker}
-use Rattle.qz_paths.proofs.ClassesFound.{Contains-filter}
 use Rattle.qz_paths.proofs.Parts.{before_not_longer}
-use Rattle.qz_repgen.specs.declared.progress.Class.{Class}
 use Rattle.qz_repgen.specs.Candidate.{AreOfOneLength, IsCandidate}
-use Rattle.qz_repgen.specs.Progress.{Covers, representatives_of, representatives_of_length}
-use Rattle.qz_repgen.specs.Rounds.{IsRepresentativeOf, IsKeptOf, AllTakenBut}
+use Rattle.qz_repgen.specs.Rounds.{IsRepresentativeOf, IsKeptOf, IsKeptUpTo}
 use Rattle.qz_repgen.proofs.CandidateRows.{candidate_circuit, candidate_listed}
-use Rattle.qz_repgen.proofs.Generation.{representative_kept_at, representative_below, known_representative, member_kept}
-use Rattle.qz_repgen.proofs.Listing.{listed_past, Contains-from_filter}
 use Rattle.qz_repgen.proofs.LowerLaws.{ranks_are_order, first_within, last_within}
+use Rattle.qz_repgen.proofs.RankLaws.{representative_below, known_representative}
 use Rattle.qz_repgen.proofs.RankRows.{some_gates}
-use Rattle.qz_repgen.proofs.RisingRuns.{increasing_from_rises}
-use Rattle.qz_repgen.proofs.Turn.{HasItsCircuit, HasMembersBelow}
 
 module _ (b : Limits) (lawful : IsLawful b) where
-  -- ---- from one rank to a later one
-
   -- a circuit that comes later is not shorter
-  longer_later : (s t : ℕ) → s ≤ t → t < length (all_circuits b) → length (circuit_at b s) ≤ length (circuit_at b t)
+  pub longer_later : (s t : ℕ) → s ≤ t → t < length (all_circuits b) → length (circuit_at b s) ≤ length (circuit_at b t)
   longer_later s t order listed = elim (eq-or-lt_of_le order) [
     | inl same ↦ omega (arith, ap (λ x. length (circuit_at b x)) same)
     | inr before ↦
@@ -42,90 +28,21 @@ module _ (b : Limits) (lawful : IsLawful b) where
         before_not_longer (circuit_at b s) (circuit_at b t) earlier
   ]
 
-  -- up to a later rank nothing is to be covered where no kept circuit stands between
-  covers_past : (low high : ℕ) (classes : List Class) → low ≤ high → high ≤ length (all_circuits b) → ((t : ℕ) → low ≤ t → t < high → IsKept b (circuit_at b t) → ⊥) → Covers b low classes → Covers b high classes
-  covers_past low high classes order bounded none covers = record {
-    representatives = listed_past low (IsRepresentativeRank b) (representatives_of classes) covers.representatives high order (λ t after before h. none t after before (representative_kept_at b (ranks_are_order b lawful) t h));
-    circuits = covers.circuits;
-    members = each_weaker (HasMembersBelow b low) (HasMembersBelow b high)
-        (λ c lists. listed_past low (IsMemberRank b c.representative) c.members.items lists high order (λ t after before h. none t after before (member_kept b (ranks_are_order b lawful) c.representative t h))) classes covers.members;
-  }
-
-  -- ---- the beginning and the end
-
   -- there is a circuit
   pub some_circuit : 0 < length (all_circuits b)
   some_circuit = omega (arith, (ranks_are_order b lawful).below [] (record { short = omega arith; gates = tt }))
 
-  -- the empty circuit is kept
-  pub empty_kept : IsKept b (circuit_at b 0)
-  empty_kept = record { within = (ranks_are_order b lawful).within_at 0 some_circuit; parts = inl (circuit_at-zero b) }
-
-  -- after the empty circuit, all of no gate are taken
-  pub started : (classes : List Class) → Covers b 1 classes → AllTakenBut b 0 [] classes
-  started classes covers = record {
-    bound = 1;
-    bounded = omega (arith, some_circuit);
-    covers = covers;
-    short = λ t before. let first : t ≡ 0 = omega arith in omega (arith, ap (λ x. length (circuit_at b x)) first, ap length (circuit_at-zero b));
-    rising = λ i j d before inside. absurd (omega arith);
-    each = λ t has. absurd (omega (arith, has.1));
-    rest = λ t after listed kept. inl (some_gates b lawful t (omega arith) listed);
+  -- the empty circuit is the only kept one of no gate
+  pub empty_kept : IsKeptUpTo b 0 0
+  empty_kept = record {
+    listed = some_circuit;
+    kept = record { within = (ranks_are_order b lawful).within_at 0 some_circuit; parts = inl (circuit_at-zero b) };
+    short = omega (arith, ap length (circuit_at-zero b));
   }
 
-  -- of as many gates as the limits allow, all kept circuits are taken
-  pub all_covered : (classes : List Class) → AllTakenBut b b.n [] classes → Covers b (length (all_circuits b)) classes
-  all_covered classes taken =
-      covers_past taken.bound (length (all_circuits b)) classes taken.bounded (omega arith) (λ t after listed kept. elim (taken.rest t after listed kept) [
-        | inl long ↦ absurd (omega (arith, long, kept.within.short))
-        | inr left ↦ absurd (omega (arith, left.1))
-      ]) taken.covers
-
-  -- ---- the candidates of a round
-
-  -- the classes' circuits tell how many gates their representatives have
-  lengths_told : (k : ℕ) (classes : List Class) → AllByRecursion (HasItsCircuit b) classes → representatives_of_length k classes ≡ filter (λ s. length (circuit_at b s) == k) (representatives_of classes)
-  lengths_told k [] all = refl
-  lengths_told k (c ∷ cs) all = at_test (length c.circuit.items == k) (length (circuit_at b c.representative) == k) (ap (λ x. length x == k) all.0) (lengths_told k cs all.1)
-    where
-      at_test : (p q : Bool) → p ≡ q → representatives_of_length k cs ≡ filter (λ s. length (circuit_at b s) == k) (representatives_of cs) →
-          map (λ (x : Class). x.representative) (cond p (c ∷ filter (λ (x : Class). length x.circuit.items == k) cs) (filter (λ (x : Class). length x.circuit.items == k) cs)) ≡
-          cond q (c.representative ∷ filter (λ s. length (circuit_at b s) == k) (representatives_of cs)) (filter (λ s. length (circuit_at b s) == k) (representatives_of cs))
-      at_test true true same rest = ap (λ xs. c.representative ∷ xs) rest
-      at_test true false same rest = absurd (true≢false same)
-      at_test false true same rest = absurd (true≢false (sym same))
-      at_test false false same rest = rest
-
-  module _ (k : ℕ) (classes : List Class) (taken : AllTakenBut b k [] classes) where
-    -- the representatives of k gates
-    listed_representatives : ListsExactly (IsRepresentativeOf b k) (filter (λ s. length (circuit_at b s) == k) (representatives_of classes))
-    listed_representatives = record {
-      rising = increasing_from_rises (filter test (representatives_of classes)) (AllPairs-filter (λ x y. x < y) test (representatives_of classes) taken.covers.representatives.rising);
-      exactly = λ r. (to r, from r);
-    }
-      where
-        test : ℕ → Bool
-        test s = length (circuit_at b s) == k
-
-        to : (r : ℕ) → Contains (filter test (representatives_of classes)) r → IsRepresentativeOf b k r
-        to r has =
-            let facts = Contains-from_filter test (representatives_of classes) r has in
-            record { representative = (taken.covers.representatives.each r facts.0).1; long = (Decides-eqb (length (circuit_at b r)) k).0 facts.1 }
-
-        from : (r : ℕ) → IsRepresentativeOf b k r → Contains (filter test (representatives_of classes)) r
-        from r h =
-            let ranks = ranks_are_order b lawful in
-            let below : r < taken.bound = elim (cases_lt r taken.bound) [
-              | inl before ↦ before
-              | inr after ↦ elim (taken.rest r after (representative_below b ranks r h.representative) (representative_kept_at b ranks r h.representative)) [
-                | inl long ↦ absurd (omega (arith, long, h.long))
-                | inr left ↦ absurd (omega (arith, left.1))
-              ]
-            ] in
-            Contains-filter test (representatives_of classes) r (taken.covers.representatives.all r below h.representative) ((Decides-eqb (length (circuit_at b r)) k).1 h.long)
-
-    pub parts_exactly : ListsExactly (IsRepresentativeOf b k) (representatives_of_length k classes)
-    parts_exactly = subst (ListsExactly (IsRepresentativeOf b k)) (sym (lengths_told k classes taken.covers.circuits)) listed_representatives
+  pub only_empty : (r : ℕ) → IsKeptUpTo b 0 r → 0 ≡ r
+  only_empty zero h = refl
+  only_empty (suc r) h = absurd (omega (arith, h.short, some_gates b lawful (suc r) (omega arith) h.listed))
 
   module _ (k : ℕ) (parts : List ℕ) (exactly : ListsExactly (IsRepresentativeOf b k) parts) where
     -- they are of one length
@@ -178,72 +95,22 @@ module _ (b : Limits) (lawful : IsLawful b) where
           }
         ]
 
-    -- with all of k gates taken, the candidates are what is left of one gate more
-    pub round_begun : (classes : List Class) → AllTakenBut b k [] classes → (left : List ℕ) → ListsExactly (IsCandidate b parts) left → AllTakenBut b (k + 1) left classes
-    round_begun classes taken left candidates = record {
-      bound = taken.bound;
-      bounded = taken.bounded;
-      covers = taken.covers;
-      short = λ t before. omega (arith, taken.short t before);
-      rising = AllPairs-from_increasing left candidates.rising;
-      each = λ t has.
-          let h = candidate_kept t ((candidates.exactly t).0 has) in
-          (elim (cases_lt t taken.bound) [ inl before ↦ absurd (omega (arith, taken.short t before, h.long)) | inr after ↦ after ], h);
-      rest = λ t after listed kept. elim (taken.rest t after listed kept) [
-        | inl long ↦ elim (cases_lt (k + 1) (length (circuit_at b t))) [
-          | inl longer ↦ inl longer
-          | inr same ↦ inr ((candidates.exactly t).1 (kept_candidate t (record { listed = listed; kept = kept; long = omega arith })))
-        ]
-        | inr none ↦ absurd (omega (arith, none.1))
-      ];
+    -- so they are listed where the candidates are
+    pub candidates_are_kept : (left : List ℕ) → ListsExactly (IsCandidate b parts) left → ListsExactly (IsKeptOf b (k + 1)) left
+    candidates_are_kept left lists = record {
+      rising = lists.rising;
+      exactly = λ r. (λ has. candidate_kept r ((lists.exactly r).0 has), λ h. (lists.exactly r).1 (kept_candidate r h));
     }
 
-  -- ---- one candidate
+  -- the kept circuits of at most k + 1 gates are those of at most k and those of k + 1
+  pub kept_up_to_next : (k r : ℕ) → IsKeptUpTo b (k + 1) r → IsKeptUpTo b k r ⊎ IsKeptOf b (k + 1) r
+  kept_up_to_next k r h = elim (cases_lt k (length (circuit_at b r))) [
+    | inl long ↦ inr (record { listed = h.listed; kept = h.kept; long = omega (arith, h.short) })
+    | inr short ↦ inl (record { listed = h.listed; kept = h.kept; short = short })
+  ]
 
-  -- what is left from a place on is what stands there and what stands behind it
-  pub taken_at : (k i : ℕ) (items : List ℕ) (classes : List Class) → i < length items → AllTakenBut b k (drop i items) classes → AllTakenBut b k (get_or items i 0 ∷ drop (i + 1) items) classes
-  taken_at k i items classes inside taken =
-      let next : drop i items ≡ get_or items i 0 ∷ drop (i + 1) items = drop-cons items i 0 inside ∙ ap (λ n. get_or items i 0 ∷ drop n items) (sym (add-one i)) in
-      subst (λ left. AllTakenBut b k left classes) next taken
+  pub kept_up_to_more : (k r : ℕ) → IsKeptUpTo b k r → IsKeptUpTo b (k + 1) r
+  kept_up_to_more k r h = record { listed = h.listed; kept = h.kept; short = omega (arith, h.short) }
 
-  module _ (k r : ℕ) (left : List ℕ) (classes : List Class) (taken : AllTakenBut b k (r ∷ left) classes) where
-    -- the next circuit is kept
-    next_kept : IsKeptOf b k r
-    next_kept = (taken.each r (contains_first r left)).1
-
-    pub next_listed : r < length (all_circuits b)
-    next_listed = next_kept.listed
-
-    pub next_is_kept : IsKept b (circuit_at b r)
-    next_is_kept = next_kept.kept
-
-    -- and no kept circuit stands before it that isn't covered
-    pub ready : Covers b r classes
-    ready = covers_past taken.bound r classes (taken.each r (contains_first r left)).0 (omega (arith, next_listed)) none taken.covers
-      where
-        none : (t : ℕ) → taken.bound ≤ t → t < r → IsKept b (circuit_at b t) → ⊥
-        none t after before kept = elim (taken.rest t after (omega (arith, next_listed)) kept) [
-          | inl long ↦ absurd (omega (arith, long, next_kept.long, longer_later t r (omega arith) next_listed))
-          | inr has ↦ elim (contains_cases r left t has) [
-            | inl same ↦ absurd (omega arith)
-            | inr later ↦ absurd (omega (arith, first_below r left taken.rising t later))
-          ]
-        ]
-
-    -- once it is taken, the others are left
-    pub turned : (new : List Class) → Covers b (r + 1) new → AllTakenBut b k left new
-    turned new covers = record {
-      bound = r + 1;
-      bounded = omega (arith, next_listed);
-      covers = covers;
-      short = λ t before. omega (arith, next_kept.long, longer_later t r (omega arith) next_listed);
-      rising = rises_tail r left taken.rising;
-      each = λ t has. (omega (arith, first_below r left taken.rising t has), (taken.each t (contains_rest r left t has)).1);
-      rest = λ t after listed kept. elim (taken.rest t (omega (arith, (taken.each r (contains_first r left)).0)) listed kept) [
-        | inl long ↦ inl long
-        | inr has ↦ elim (contains_cases r left t has) [
-          | inl same ↦ absurd (omega arith)
-          | inr later ↦ inr later
-        ]
-      ];
-    }
+  pub kept_of_next : (k r : ℕ) → IsKeptOf b (k + 1) r → IsKeptUpTo b (k + 1) r
+  kept_of_next k r h = record { listed = h.listed; kept = h.kept; short = omega (arith, h.long) }

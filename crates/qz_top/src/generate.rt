@@ -13,17 +13,17 @@ use qz_repgen::generate_one;
 use qz_rulefile::print;
 use std::alloc::Global;
 
-// The text of the rule file of the class list.
-fn rules_of(alloc: Global, b: Bounds) -> Result<Vec<u8>, Memory>
+// The text of the rule file of the class list, which is the same for each seed.
+fn rules_of(alloc: Global, b: Bounds, seed: u64) -> Result<Vec<u8>, Memory>
     ensures { IfOk result (λ text. IsCompleteRules b text.items) }
 {
-    let classes = generate_one(alloc, b)?;
+    let (classes, _) = generate_one(alloc, b, seed)?;
     let text = print(alloc, &classes)?;
     Ok(text)
 }
 
 // Generates the class list and writes its text to the output.
-pub(crate) fn generate<O: Sink>(alloc: Global, b: Bounds, out: &mut O) -> Status
+pub(crate) fn generate<O: Sink>(alloc: Global, b: Bounds, seed: u64, out: &mut O) -> Status
     // Whatever the input and the shelf are, as long as they have no fault.
     ensures carried_out { (input : Input) (shelf : Storage) → input.faults_after ≡ input.faults_before → IsCalm shelf → IsCarriedOut (λ given. Generates b) result
         (record { input = input; shelf = shelf; out = output_of O.written O.faults O.answers_faults out.old out.new }) }
@@ -32,7 +32,7 @@ pub(crate) fn generate<O: Sink>(alloc: Global, b: Bounds, out: &mut O) -> Status
     ensures faults { O.faults out.old ≤ O.faults out.new }
     ensures wants { O.wants out.old ≤ O.wants out.new }
 {
-    let Ok(text) = rules_of(alloc, b) else {
+    let Ok(text) = rules_of(alloc, b, seed) else {
         return Status::Memory;
     };
     write_text(&text, out)

@@ -73,11 +73,16 @@ fn carry_out<I: Source, F: Shelf, O: Sink>(
     ensures wants { O.wants out.old ≤ O.wants out.new }
 {
     match command {
-        Command::Generate { bounds, report, .. } => {
+        Command::Generate {
+            bounds,
+            seed,
+            report,
+            ..
+        } => {
             if report {
                 Status::Unbuilt
             } else {
-                generate(alloc, bounds, out)
+                generate(alloc, bounds, seed, out)
             }
         }
         Command::Tidy => tidy(alloc, input, out),

@@ -119,7 +119,7 @@ fn as_rules(alloc: Global, classes: &Classes) -> Result<Rules, Memory>
 fn rules(alloc: Global) -> Result<Rules, Memory>
     ensures { IfOk result (λ rules. AreTrialClasses rules.classes) }
 {
-    let classes = generate_one(alloc, bounds())?;
+    let (classes, _) = generate_one(alloc, bounds(), 0)?;
     as_rules(alloc, &classes)
 }
 

@@ -1,59 +1,35 @@
-use Rattle.std.proofs.Common.{◌≡◌, length, sym, ap, subst, ◌∙◌, arith, rules, []}
-use Rattle.std.proofs.lemmas.Result.{IfOk-weaker}
-use Rattle.qz_circ.specs.Bounds.{IsLawful}
-use Rattle.qz_circ.specs.ClassLists.{ClassLists}
-use Rattle.qz_circ.specs.Order.{all_circuits}
-use Rattle.qz_circ.specs.Classes.{IsClassList, HasEquivalentMembers}
-use Rattle.qz_circ.specs.Joined.{JoinsEquivalent}
-use Rattle.qz_paths.proofs.Members.{members_equivalent}
+use Rattle.std.proofs.Common.{sym, subst, arith}
+use Rattle.std.specs.Prelude.{All}
+use Rattle.qz_circ.specs.ClassLists.{AreRanks}
+use Rattle.qz_circ.proofs.BoundsLemmas.{in_range}
 use Rattle.qz_paths.proofs.Completeness.{joins_equivalent}
-use Rattle.qz_repgen.specs.Progress.{Covers, several_of}
-use Rattle.qz_repgen.specs.Rounds.{AllTakenBut}
-use Rattle.qz_repgen.proofs.LowerLaws.{ranks_are_order}
-use Rattle.qz_repgen.proofs.Generation.{class_list, members_are_ranks}
-use Rattle.qz_repgen.proofs.RoundSteps.{some_circuit, empty_kept, started, all_covered}
-use Rattle.qz_repgen.proofs.generate.Given.{Over}
+use Rattle.qz_paths.proofs.Members.{members_equivalent}
+use Rattle.qz_shard.specs.Shards.{ShardParts}
+use Rattle.qz_repgen.specs.Journals.{IsKeptRank}
+use Rattle.qz_repgen.proofs.RoundLemmas.{listed_class_list}
+use Rattle.qz_repgen.proofs.ShardLemmas.{ranks_of_all}
 use Rattle.qz_repgen.proofs.generate.Goals as goal
-use Rattle.qz_repgen.proofs.generate.Goals.{After-deref}
 
--- the empty circuit is the first
-pub take_in-requires-clause-rank : goal.take_in-requires-clause-rank
-take_in-requires-clause-rank g c =
-    let lawful : IsLawful c.args.b = search rules in
-    some_circuit c.args.b lawful
+pub new-probe-requires : goal.new-probe-requires
+new-probe-requires g c = let range = in_range c.args.b c.q.ensures.lawful in (omega (arith, c.q.ensures.value, range.some_qubit), omega (arith, c.q.ensures.value, range.qubits))
 
-pub take_in-requires-clause-kept : goal.take_in-requires-clause-kept
-take_in-requires-clause-kept g c =
-    let lawful : IsLawful c.args.b = search rules in
-    empty_kept c.args.b lawful
+-- the shards hold ranks
+pub listed-requires-clause-ranks : goal.listed-requires-clause-ranks
+listed-requires-clause-ranks g c =
+    subst (All (λ (s : ShardParts). AreRanks c.args.b s.journal)) (sym c.deref.ensures.value)
+    (ranks_of_all c.args.b c.new-probe.result.seed (IsKeptRank c.args.b) c.all_rounds.new.shards.items c.in_ok-representatives.ensures.held (λ r h. h.listed))
 
-pub loop-k-init : goal.loop-k-init
-loop-k-init g c = started c.args.b c.n-k-end.ensures.lawful c.take_in.new.classes.items c.in_ok-take_in.ensures
-
--- after the last round everything is covered
-covered : (g : Over) (c : After-deref g) → Covers c.args.b (length (all_circuits c.args.b)) c.deref.result.now
-covered g c =
-    let ended : c.loop-k.k ≡ c.args.b.n = omega (arith, c.n-k-end.ensures.value) in
-    subst (Covers c.args.b (length (all_circuits c.args.b))) (sym c.deref.ensures.value)
-    (all_covered c.args.b c.n-k-end.ensures.lawful c.loop-k.classes.items (subst (λ k. AllTakenBut c.args.b k [] c.loop-k.classes.items) ended c.loop-k.invariant))
-
-pub several-requires : goal.several-requires
-several-requires g c = members_are_ranks c.args.b (ranks_are_order c.args.b c.n-k-end.ensures.lawful) (length (all_circuits c.args.b)) (omega arith) c.deref.result.now (covered g c)
+-- what is listed is the class list
+pub report_of-report-requires-clause-class_list : goal.report_of-report-requires-clause-class_list
+report_of-report-requires-clause-class_list g c =
+    listed_class_list c.args.b c.q.ensures.lawful c.new-probe.result.seed c.all_rounds.new.shards.items c.in_ok-representatives.ensures.held c.deref.result.now c.deref.ensures.value c.in_ok-classes.classes.lists c.in_ok-classes.ensures.together
 
 pub returns-clause-classes : goal.returns-clause-classes
 returns-clause-classes g c =
-    let ended : c.loop-k.k ≡ c.args.b.n = omega (arith, c.n-k-end.ensures.value) in
-    let covers = all_covered c.args.b c.n-k-end.ensures.lawful c.loop-k.classes.items (subst (λ k. AllTakenBut c.args.b k [] c.loop-k.classes.items) ended c.loop-k.invariant) in
-    let list = class_list c.args.b (ranks_are_order c.args.b c.n-k-end.ensures.lawful) (length (all_circuits c.args.b)) (omega arith) c.loop-k.classes.items covers in
-    IfOk-weaker c.several.result (λ (k : ClassLists). k ≡ record { bounds = c.args.b; lists = several_of c.deref.result.now }) (λ k. IsClassList c.args.b k.lists)
-    (λ k is. subst (IsClassList c.args.b) (sym (ap (λ (x : ClassLists). x.lists) is ∙ ap several_of c.deref.ensures.value)) list) c.several.ensures
+    listed_class_list c.args.b c.q.ensures.lawful c.new-probe.result.seed c.all_rounds.new.shards.items c.in_ok-representatives.ensures.held c.deref.result.now c.deref.ensures.value c.in_ok-classes.classes.lists c.in_ok-classes.ensures.together
 
 pub returns-clause-equivalent : goal.returns-clause-equivalent
-returns-clause-equivalent g c =
-    IfOk-weaker c.several.result (λ (k : ClassLists). IsClassList c.args.b k.lists) (λ k. HasEquivalentMembers c.args.b k.lists)
-    (λ k is. members_equivalent c.args.b c.n-k-end.ensures.lawful k.lists is) (returns-clause-classes g c)
+returns-clause-equivalent g c = members_equivalent c.args.b c.q.ensures.lawful c.in_ok-classes.classes.lists (returns-clause-classes g c)
 
 pub returns-clause-complete : goal.returns-clause-complete
-returns-clause-complete g c =
-    IfOk-weaker c.several.result (λ (k : ClassLists). IsClassList c.args.b k.lists) (λ k. JoinsEquivalent c.args.b k.lists)
-    (λ k is. joins_equivalent c.args.b c.n-k-end.ensures.lawful k.lists is) (returns-clause-classes g c)
+returns-clause-complete g c = joins_equivalent c.args.b c.q.ensures.lawful c.in_ok-classes.classes.lists (returns-clause-classes g c)

@@ -1,0 +1,114 @@
+//! Rounds: the kept circuits of one gate more, from the representatives so far.
+ghost use Rattle.std.specs.Prelude.{◌≡◌, ◌+◌, ◌<◌, All, IfOk, OnOk, IsOk};
+ghost use Rattle.qz_circ.specs.Bounds.{IsLawful};
+ghost use Rattle.qz_circ.specs.ClassLists.{AreRanks};
+ghost use Rattle.qz_repgen.specs.Journals.{IsKeptRank};
+ghost use Rattle.qz_repgen.specs.Listing.{AddsFirsts, ListsFirsts};
+ghost use Rattle.qz_repgen.specs.Numbers.{IsNumberOf};
+ghost use Rattle.qz_repgen.specs.Reports.{IsExtended};
+ghost use Rattle.qz_repgen.specs.Rounds.{IsRepresentativeOf, IsKeptUpTo};
+ghost use Rattle.qz_repgen.specs.Shards.{journals_of, empty_shards, ShardsHold};
+
+use crate::candidate::candidates;
+use crate::front::Front;
+use crate::shards::take_in;
+use qz_circ::{Bounds, Memory, Steps, drop_last_rank, length_of};
+use qz_finger::Probe;
+use qz_shard::Shard;
+use std::alloc::Global;
+use std::sync::ledger::Ledger;
+
+// Adds the first members of the shard's classes that have k gates.
+fn add_firsts(found: &mut Vec<u64>, shard: &Shard, b: Bounds, k: u64) -> Result<(), Memory>
+    requires bounds { shard.now.bounds ≡ b }
+    requires listed { AreRanks b shard.now.journal }
+    ensures { OnOk result (AddsFirsts b k shard.now.journal found.old.items found.new.items) }
+{
+    for i in 0..shard.classes() {
+        let first = shard.class(i)[0];
+        if length_of(first, b) == k && found.push(first).is_err() {
+            return Err(Memory);
+        }
+    }
+    Ok(())
+}
+
+// The first members of all classes that have k gates, in order.
+fn firsts(alloc: Global, b: Bounds, shards: &[Shard], k: u64) -> Result<Vec<u64>, Memory>
+    requires bounds { All (λ s. s.bounds ≡ b) shards.now }
+    requires listed { All (λ s. AreRanks b s.journal) shards.now }
+    ensures { IfOk result (λ found. ListsFirsts b k (journals_of shards.now) found.items) }
+{
+    let mut found = Vec::new(alloc);
+    for shard in shards {
+        add_firsts(&mut found, shard, b, k)?;
+    }
+    found.sort_unstable();
+    Ok(found)
+}
+
+// Takes in the kept circuits of k + 1 gates, where those of fewer are in the shards. They are the candidates of the
+// representatives of k gates; answers how many of these there are.
+fn round<L: Ledger>(
+    alloc: Global,
+    b: Bounds,
+    probe: &Probe,
+    k: u64,
+    shards: &mut Vec<Shard>,
+    steps: &mut Steps<L>,
+) -> Result<u64, Memory>
+    requires lawful { IsLawful b }
+    requires qubits { probe.now.q ≡ b.q }
+    requires short { k < b.n }
+    requires held { ShardsHold b probe.now.seed (IsKeptUpTo b k) shards.old.items }
+    ensures held { OnOk result (ShardsHold b probe.now.seed (IsKeptUpTo b (k + 1)) shards.new.items) }
+    ensures number { IfOk result (IsNumberOf (IsRepresentativeOf b k)) }
+{
+    let parts = firsts(alloc, b, shards, k)?;
+    let left = candidates(alloc, &parts, b)?;
+    let mut front = Front::new(alloc, b, probe, 0)?;
+    for r in &left {
+        front.go_to(alloc, b, probe, drop_last_rank(*r, b))?;
+        let print = front.print_with(b, probe, *r);
+        take_in(shards, *r, print, steps)?;
+    }
+    Ok(parts.len() as u64)
+}
+
+// Takes in the empty circuit.
+fn begin<L: Ledger>(
+    b: Bounds,
+    probe: &Probe,
+    shards: &mut Vec<Shard>,
+    steps: &mut Steps<L>,
+) -> Result<(), Memory>
+    requires lawful { IsLawful b }
+    requires qubits { probe.now.q ≡ b.q }
+    requires empty { shards.old.items ≡ empty_shards b probe.now 16 }
+    ensures { OnOk result (ShardsHold b probe.now.seed (IsKeptUpTo b 0) shards.new.items) }
+{
+    let print = probe.finger(&[]);
+    take_in(shards, 0, print, steps)
+}
+
+// Takes in all kept circuits, and answers how many representatives have fewer gates than the bounds allow.
+pub(crate) fn all_rounds<L: Ledger>(
+    alloc: Global,
+    b: Bounds,
+    probe: &Probe,
+    shards: &mut Vec<Shard>,
+    steps: &mut Steps<L>,
+) -> Result<u64, Memory>
+    requires qubits { probe.now.q ≡ b.q }
+    requires empty { shards.old.items ≡ empty_shards b probe.now 16 }
+    ensures held { OnOk result (ShardsHold b probe.now.seed (IsKeptRank b) shards.new.items) }
+    ensures number { IfOk result (IsNumberOf (IsExtended b)) }
+{
+    begin(b, probe, shards, steps)?;
+    let mut representatives = 0;
+    for k in 0..b.n() {
+        let longest = round(alloc, b, probe, k, shards, steps)?;
+        representatives += longest;
+    }
+    Ok(representatives)
+}
