@@ -1,13 +1,9 @@
-//! Tests of the commands from their words to what they write.
+//! Tests of the words of commands, of the texts of refusals, and of the commands that take no program.
 #![tactic(auto)]
 
 #[cfg(test)]
 mod commands;
 #[cfg(test)]
-mod optimise;
-#[cfg(test)]
 mod texts;
-#[cfg(test)]
-mod tidy;
 #[cfg(test)]
 mod trials;
