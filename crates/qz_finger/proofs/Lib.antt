@@ -12,4 +12,5 @@ pub mod ProbeTables
 pub mod Powers
 pub mod Worths
 pub mod SumLemmas
+pub mod RowLemmas
 pub mod ExtensionLemmas

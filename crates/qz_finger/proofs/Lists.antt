@@ -1,5 +1,5 @@
 -- Lists of numbers that are filled from the front, and of numbers below p.
-use Rattle.std.proofs.Common.{◌≡◌, ℕ, zero, suc, ◌+◌, ◌*◌, ◌%◌, ◌<◌, ◌≤◌, Bool, List, length, map, lt-ltb, le-ltb, replicate, ◌⊎◌, inl, inr, refl, add-one, add-zero, add-suc, zero-mul, suc-mul, sym, ap, subst, ◌∙◌, arith}
+use Rattle.std.proofs.Common.{◌≡◌, ℕ, zero, suc, ◌+◌, ◌*◌, ◌%◌, ◌<◌, ◌≤◌, Bool, List, [], ◌∷◌, length, map, lt-ltb, le-ltb, replicate, ◌⊎◌, inl, inr, refl, add-one, add-zero, add-suc, zero-mul, suc-mul, sym, ap, subst, ◌∙◌, arith}
 use Rattle.std.specs.Prelude.{slice_index, slice_set, nat_lt, if◌then◌else◌}
 use Rattle.std.specs.List.{range_with_len}
 use Rattle.std.proofs.lemmas.Bool.{cases_eq, cases_lt}
@@ -48,6 +48,24 @@ padded f xs size long filled zeros = fill_by_all (λ k. if nat_lt k size then f 
         by (inl less) = filled m less ∙ ap (λ (b : Bool). if b then f m else 0) (sym (lt-ltb m size less))
         by (inr more) = zeros m more ∙ ap (λ (b : Bool). if b then f m else 0) (sym (le-ltb m size more))
 
+-- three more at the front
+pub three_below : (x y z : ℕ) (xs : List ℕ) → x < modulus → y < modulus → z < modulus → AreBelow xs → AreBelow (x ∷ y ∷ z ∷ xs)
+three_below x y z xs first second third rest zero = first
+three_below x y z xs first second third rest (suc zero) = second
+three_below x y z xs first second third rest (suc (suc zero)) = third
+three_below x y z xs first second third rest (suc (suc (suc k))) = rest k
+
+-- none at all
+pub none_below : AreBelow []
+none_below k = omega arith
+
+-- what holds of 0, 1 and 2
+pub three_cases : (P : ℕ → Type 0) → P 0 → P 1 → P 2 → (t : ℕ) → t < 3 → P t
+three_cases P first second third zero less = first
+three_cases P first second third (suc zero) less = second
+three_cases P first second third (suc (suc zero)) less = third
+three_cases P first second third (suc (suc (suc t))) less = absurd (omega arith)
+
 -- a remainder is below p
 pub rest_below : (x y : ℕ) → x ≡ y % modulus → x < modulus
 rest_below x y same = omega arith
@@ -60,7 +78,7 @@ unfolding sum_below
 sum_more f k = ap (sum_below f) (add-one k)
 
 -- numbers below m + n are those below m, and those from m on
-sum_parts : (f : ℕ → ℕ) (m n : ℕ) → sum_below f (m + n) ≡ sum_below f m + sum_below (λ k. f (m + k)) n
+pub sum_parts : (f : ℕ → ℕ) (m n : ℕ) → sum_below f (m + n) ≡ sum_below f m + sum_below (λ k. f (m + k)) n
 unfolding sum_below
 sum_parts f m zero = ap (sum_below f) (add-zero m) ∙ sym (add-zero (sum_below f m))
 sum_parts f m (suc n) =

@@ -6,7 +6,7 @@ use Rattle.qz_circ.specs.declared.circuit.Op.{Op}
 use Rattle.qz_circ.specs.declared.circuit.Op.TheVariants.{H, X, Cx, Rz}
 use Rattle.qz_circ.specs.Paths.{has_bit, flipped_state}
 use Rattle.qz_finger.specs.declared.actions.Action.{Action}
-use Rattle.qz_finger.specs.declared.actions.Action.TheVariants.{Mix, Flip, FlipWhere, Turn, Keep, Clear, Cross}
+use Rattle.qz_finger.specs.declared.actions.Action.TheVariants.{Mix, Flip, FlipWhere, Turn}
 use Rattle.qz_finger.specs.declared.actions.Step.{Step}
 use Rattle.qz_finger.specs.Modulo.{modulus, minus_one}
 
@@ -16,9 +16,6 @@ acted Mix b c x y = (if c then minus_one * x else x) + y
 acted Flip b c x y = y
 acted FlipWhere b c x y = if b then y else x
 acted (Turn u) b c x y = if c then u * x else x
-acted Keep b c x y = if c then x else 0
-acted Clear b c x y = if c then 0 else x
-acted Cross b c x y = if b then y else 0
 
 -- each number is below p
 abbrev pub AreBelow : List ℕ → Type 0

@@ -4,4 +4,5 @@ pub mod Fingerprint
 pub mod Actions
 pub mod Stands
 pub mod Tables
+pub mod Rows
 pub mod Sums

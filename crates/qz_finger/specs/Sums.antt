@@ -1,14 +1,14 @@
 -- Weighed sums over a circuit's values, of which the weighed sum of the circuit with one gate more is made.
-use Rattle.std.specs.Prelude.{◌≡◌, ◌≢◌, ℕ, ◌+◌, ◌*◌, ◌%◌, ◌<◌, List, slice_index}
+use Rattle.std.specs.Prelude.{◌≡◌, ℕ, ◌+◌, ◌*◌, ◌%◌, ◌^◌, ◌<◌, true, false, List, slice_index}
 use Rattle.qz_circ.specs.Circuit.{Circuit}
-use Rattle.qz_finger.specs.declared.actions.Action.{Action}
-use Rattle.qz_finger.specs.declared.actions.Action.TheVariants.{Flip, Keep, Clear, Cross}
+use Rattle.qz_circ.specs.Paths.{flipped_state}
 use Rattle.qz_finger.specs.declared.actions.Step.{Step}
 use Rattle.qz_finger.specs.declared.sums.Sums.{Sums}
 use Rattle.qz_finger.specs.Modulo.{modulus, sum_below}
 use Rattle.qz_finger.specs.Weights.{entries_on}
 use Rattle.qz_finger.specs.Fingerprint.{ProbeParts}
 use Rattle.qz_finger.specs.Actions.{AreBelow, value_after}
+use Rattle.qz_finger.specs.Rows.{row_sum, sum_where}
 use Rattle.qz_finger.specs.Stands.{ValueLists, StandsFor}
 use Rattle.qz_finger.specs.Tables.{weights_after}
 
@@ -16,16 +16,12 @@ use Rattle.qz_finger.specs.Tables.{weights_after}
 unfoldable pub sum_after : Step → ℕ → List ℕ → List ℕ → ℕ
 sum_after s size w v = sum_below (λ k. slice_index w k * value_after s v k) size
 
--- the step of an action on the qubits c and t of the rows
-abbrev pub step_on : Action → ℕ → ℕ → ℕ → Step
-step_on a q c t = record { action = a; control = q + c; target = q + t }
-
--- the sums over what is kept, cleared and flipped for each qubit, and crossed for each two different qubits
+-- the weighed sums of each row, or of the row with qubit t flipped: of the rows where a qubit is 1, of those where it is 0, and of all
 pub record HasSums (q : ℕ) (w v : List ℕ) (s : Sums) : Type 0 where
-  pub kept : (t : ℕ) → t < q → slice_index s.kept t ≡ sum_after (step_on Keep q t t) (entries_on q) w v % modulus
-  pub cleared : (t : ℕ) → t < q → slice_index s.cleared t ≡ sum_after (step_on Clear q t t) (entries_on q) w v % modulus
-  pub flipped : (t : ℕ) → t < q → slice_index s.flipped t ≡ sum_after (step_on Flip q t t) (entries_on q) w v % modulus
-  pub crossed : (c t : ℕ) → c < q → t < q → c ≢ t → slice_index s.crossed (3 * c + t) ≡ sum_after (step_on Cross q c t) (entries_on q) w v % modulus
+  pub kept : (t : ℕ) → t < q → slice_index s.kept t ≡ sum_where (2 ^ q) true t (λ i. row_sum q w v i i) % modulus
+  pub cleared : (t : ℕ) → t < q → slice_index s.cleared t ≡ sum_where (2 ^ q) false t (λ i. row_sum q w v i i) % modulus
+  pub flipped : (t : ℕ) → t < q → slice_index s.flipped t ≡ sum_below (λ i. row_sum q w v i (flipped_state t i)) (2 ^ q) % modulus
+  pub crossed : (c t : ℕ) → c < q → t < q → slice_index s.crossed (3 * c + t) ≡ sum_where (2 ^ q) true c (λ i. row_sum q w v i (flipped_state t i)) % modulus
 
 -- all sums are below p
 pub record AreSums (s : Sums) : Type 0 where

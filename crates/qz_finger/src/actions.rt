@@ -1,5 +1,5 @@
 //! What gates make of values of entries, modulo p.
-ghost use Rattle.std.specs.Prelude.{◌≡◌, ℕ, ◌+◌, ◌%◌, ◌<◌, ◌≤◌, true, if◌then◌else◌};
+ghost use Rattle.std.specs.Prelude.{◌≡◌, ℕ, ◌+◌, ◌%◌, ◌<◌, ◌≤◌, true};
 ghost use Rattle.qz_circ.specs.Circuit.{ActsBelow, HasBelow};
 ghost use Rattle.qz_circ.specs.Exponent.{angle_exponent};
 ghost use Rattle.qz_circ.specs.Paths.{has_bit as bit_of, flipped_state as flip_of};
@@ -9,7 +9,8 @@ ghost use Rattle.qz_finger.specs.Actions.{acted as acted_on, AreBelow, IsAfter, 
 ghost use Rattle.qz_finger.specs.Fingerprint.{Bases, value};
 ghost use Rattle.qz_finger.specs.Tables.{tables_of};
 
-use crate::modulo::{add, multiply, subtract};
+use crate::fill::filled;
+use crate::modulo::{add, multiply_where, subtract};
 use crate::tables::{Tables, value_of_angle};
 use qz_circ::Op;
 
@@ -24,12 +25,6 @@ pub(crate) enum Action {
     FlipWhere,
     /// Multiplies by this number where the target is 1: a rotation.
     Turn(u64),
-    /// Keeps the value where the target is 1, and takes 0 elsewhere.
-    Keep,
-    /// Takes 0 where the target is 1, and keeps the value elsewhere.
-    Clear,
-    /// Takes the other one where the control is 1, and 0 elsewhere.
-    Cross,
 }
 
 /// A gate on the qubits of places. Without a control the target stands for it.
@@ -41,7 +36,7 @@ pub(crate) struct Step {
 }
 
 // Whether a qubit of a place is 1.
-fn has_bit(t: u8, place: usize) -> bool
+pub(crate) fn has_bit(t: u8, place: usize) -> bool
     requires { t < 6 }
     ensures { result ≡ bit_of t place }
 {
@@ -69,30 +64,6 @@ fn mixed(target: bool, here: u64, across: u64) -> u64
     }
 }
 
-// The value if it is wanted, and else 0.
-fn value_where(wanted: bool, value: u64) -> u64
-    ensures { result ≡ (if wanted then value else 0) }
-{
-    if wanted { value } else { 0 }
-}
-
-// What an action makes of a place's value, and of that where the target is flipped.
-fn acted(action: Action, control: bool, target: bool, here: u64, across: u64) -> u64
-    requires here { here < modulus }
-    requires across { across < modulus }
-    ensures { result ≡ acted_on action control target here across % modulus }
-{
-    match action {
-        Action::Mix => mixed(target, here, across),
-        Action::Flip => across,
-        Action::FlipWhere => { if control { across } else { here } }
-        Action::Turn(u) => { if target { multiply(u, here) } else { here } }
-        Action::Keep => value_where(target, here),
-        Action::Clear => value_where(!target, here),
-        Action::Cross => value_where(control, across),
-    }
-}
-
 // The values after a step, in the places below a size.
 pub(crate) fn after(step: Step, size: usize, values: &[u64; 64]) -> [u64; 64]
     requires control { step.control < 6 }
@@ -103,14 +74,26 @@ pub(crate) fn after(step: Step, size: usize, values: &[u64; 64]) -> [u64; 64]
     ensures after { IsAfter step size values.now result }
     ensures below { AreBelow result }
 {
-    let mut next = [0; 64];
-    for k in 0..size {
-        let control = has_bit(step.control, k);
-        let target = has_bit(step.target, k);
-        let across = values[flipped_state(step.target, k)];
-        next[k] = acted(step.action, control, target, values[k], across);
+    let control = step.control;
+    let target = step.target;
+    match step.action {
+        Action::Mix => filled(size, |k| {
+            mixed(
+                has_bit(target, k),
+                values[k],
+                values[flipped_state(target, k)],
+            )
+        }),
+        Action::Flip => filled(size, |k| values[flipped_state(target, k)]),
+        Action::FlipWhere => filled(size, |k| {
+            values[if has_bit(control, k) {
+                flipped_state(target, k)
+            } else {
+                k
+            }]
+        }),
+        Action::Turn(u) => filled(size, |k| multiply_where(has_bit(target, k), values[k], u)),
     }
-    next
 }
 
 // The step of a gate on q qubits.

@@ -4,9 +4,11 @@
 
 mod actions;
 mod extensions;
+mod fill;
 pub mod laws;
 mod modulo;
 mod probe;
+mod rows;
 mod sums;
 mod tables;
 mod values;
@@ -15,3 +17,4 @@ mod words;
 
 pub use extensions::Extensions;
 pub use probe::Probe;
+pub use values::Values;

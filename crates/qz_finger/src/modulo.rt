@@ -1,5 +1,5 @@
 //! Sums and products modulo p = 2^64 - 2^32 + 1.
-ghost use Rattle.std.specs.Prelude.{◌≡◌, ◌+◌, ◌*◌, ◌%◌, ◌<◌};
+ghost use Rattle.std.specs.Prelude.{◌≡◌, ◌+◌, ◌*◌, ◌%◌, ◌<◌, if◌then◌else◌};
 ghost use Rattle.qz_finger.specs.Modulo.{modulus, minus_one};
 
 // p
@@ -27,6 +27,14 @@ pub(crate) fn multiply(a: u64, b: u64) -> u64
     ensures { result ≡ a * b % modulus }
 {
     reduce(a as u128 * b as u128)
+}
+
+// The product, if it is wanted, and else the first number, which is below p.
+pub(crate) fn multiply_where(wanted: bool, a: u64, b: u64) -> u64
+    requires { a < modulus }
+    ensures { result ≡ (if wanted then a * b else a) % modulus }
+{
+    if wanted { multiply(a, b) } else { a }
 }
 
 // The sum of two numbers below p.

@@ -133,8 +133,8 @@ impl Probe {
         *values = self.with_gate(values, op);
     }
 
-    // The values of a circuit.
-    fn values(&self, c: &[Op]) -> Values
+    /// The values of a circuit. Its gates are as `finger` asks.
+    pub fn values(&self, c: &[Op]) -> Values
         requires { IsOn self.now.q 3 c.now }
         ensures { StandsFor self.now c.now result }
     {
@@ -150,8 +150,8 @@ impl Probe {
         ensures { (c : Circuit) → StandsFor self.now c values.now → result ≡ fingerprint self.now.seed self.now.q c }
     {
         let size = size_of(self.q);
-        let first = weigh(&self.values.weights, &values.values, size);
-        let second = weigh(&self.inverses.weights, &values.inverses, size);
+        let first = weigh(&self.values.weights, 0, &values.values, 0, size);
+        let second = weigh(&self.inverses.weights, 0, &values.inverses, 0, size);
         multiply(multiply(first, second), values.scale)
     }
 
@@ -164,17 +164,32 @@ impl Probe {
         self.finger_of(&self.values(c))
     }
 
-    /// What the fingerprints of a circuit with one gate more are made of. Its gates are as `finger` asks.
-    pub fn extensions(&self, c: &[Op]) -> Extensions
-        requires { IsOn self.now.q 3 c.now }
-        ensures { Extends self.now c.now result }
+    // What the fingerprints of the circuit that the values stand for, with one gate more, are made of.
+    fn extensions_of(&self, values: &Values) -> Extensions
+        ensures { (c : Circuit) → StandsFor self.now c values.now → Extends self.now c result }
     {
-        let values = self.values(c);
         Extensions {
             values: all_sums(&self.values.weights, &values.values, self.q),
             inverses: all_sums(&self.inverses.weights, &values.inverses, self.q),
             scale: values.scale,
         }
+    }
+
+    /// What the fingerprints of a circuit with one gate more are made of. Its gates are as `finger` asks.
+    pub fn extensions(&self, c: &[Op]) -> Extensions
+        requires { IsOn self.now.q 3 c.now }
+        ensures { Extends self.now c.now result }
+    {
+        self.extensions_of(&self.values(c))
+    }
+
+    /// The same of a circuit that is one with known values and this gate at its end. The gate is as `finger` asks.
+    pub fn extensions_with(&self, values: &Values, op: Op) -> Extensions
+        requires gate { ActsBelow self.now.q op }
+        requires parameters { HasBelow 3 op }
+        ensures { (c : Circuit) → StandsFor self.now c values.now → Extends self.now (c ++ op ∷ []) result }
+    {
+        self.extensions_of(&self.with_gate(values, op))
     }
 
     /// The fingerprint of the circuit with one gate more at its end, from what this probe made of the circuit. The gate is as

@@ -1,25 +1,21 @@
 //! Weighed sums over a circuit's values, of which the weighed sum of the circuit with one gate more is made.
-ghost use Rattle.std.specs.Prelude.{◌≡◌, ◌≢◌, ℕ, ◌+◌, ◌*◌, ◌%◌, ◌<◌, ◌≤◌, List, slice_index};
+ghost use Rattle.std.specs.Prelude.{◌≡◌, ℕ, ◌+◌, ◌*◌, ◌%◌, ◌<◌, ◌≤◌, List, slice_index};
 ghost use Rattle.qz_circ.specs.Circuit.{ActsBelow, HasBelow};
 ghost use Rattle.qz_circ.specs.Exponent.{angle_exponent};
-ghost use Rattle.qz_circ.specs.Paths.{flipped_state};
-ghost use Rattle.qz_finger.specs.declared.actions.Action.TheVariants.{Cross};
 ghost use Rattle.qz_finger.specs.Actions.{AreBelow, step_for};
 ghost use Rattle.qz_finger.specs.Fingerprint.{Bases, value};
 ghost use Rattle.qz_finger.specs.Modulo.{modulus};
-ghost use Rattle.qz_finger.specs.Sums.{sum_after, step_on as step_on_qubits, HasSums, AreSums};
+ghost use Rattle.qz_finger.specs.Sums.{sum_after, HasSums, AreSums};
 ghost use Rattle.qz_finger.specs.Tables.{tables_of};
 ghost use Rattle.qz_finger.specs.Weights.{entries_on};
 
-use crate::actions::{Action, Step, after};
 use crate::modulo::{add, multiply, subtract};
+use crate::rows::{row_sums, total, totals_where};
 use crate::tables::{Tables, value_of_angle};
-use crate::values::size_of;
-use crate::weigh::weigh;
 use qz_circ::Op;
 
-/// For each qubit of a row: the sum where it is 1, where it is 0, and with it flipped. For each two different qubits c and t, in
-/// place 3·c + t: the sum with t flipped where c is 1.
+/// For each qubit of a row: the sum over the rows where it is 1, over those where it is 0, and over all with it flipped in the
+/// values. For each two qubits c and t, in place 3·c + t: the sum with t flipped in the values over the rows where c is 1.
 #[derive(Clone, Copy)]
 pub(crate) struct Sums {
     pub(crate) kept: [u64; 3],
@@ -28,98 +24,40 @@ pub(crate) struct Sums {
     pub(crate) crossed: [u64; 9],
 }
 
-// The step of an action on two qubits of the rows.
-fn step_on(action: Action, q: u64, c: usize, t: usize) -> Step
-    requires qubits { q ≤ 3 }
-    requires control { c < q }
-    requires target { t < q }
-    ensures { result ≡ step_on_qubits action q c t }
-{
-    Step {
-        action,
-        control: (q as usize + c) as u8,
-        target: (q as usize + t) as u8,
-    }
-}
-
-// The weights times what an action on two qubits of the rows makes of the values, added up.
-fn sum_of(
-    weights: &[u64; 64],
-    values: &[u64; 64],
-    q: u64,
-    action: Action,
-    c: usize,
-    t: usize,
-) -> u64
-    requires qubits { q ≤ 3 }
-    requires control { c < q }
-    requires target { t < q }
-    requires values { AreBelow values.now }
-    ensures value { result ≡ sum_after (step_on_qubits action q c t) (entries_on q) weights.now values.now % modulus }
-    ensures below { result < modulus }
-{
-    let size = size_of(q);
-    weigh(
-        weights,
-        &after(step_on(action, q, c, t), size, values),
-        size,
-    )
-}
-
-// The sums of an action on each qubit.
-fn on_each(weights: &[u64; 64], values: &[u64; 64], q: u64, action: Action) -> [u64; 3]
-    requires qubits { q ≤ 3 }
-    requires values { AreBelow values.now }
-    ensures sums { (t : ℕ) → t < q → slice_index result t ≡ sum_after (step_on_qubits action q t t) (entries_on q) weights.now values.now % modulus }
+// The numbers of three columns, row by row.
+fn by_rows(first: [u64; 3], second: [u64; 3], third: [u64; 3]) -> [u64; 9]
+    requires first { AreBelow first }
+    requires second { AreBelow second }
+    requires third { AreBelow third }
+    ensures first { (i : ℕ) → i < 3 → slice_index result (3 * i) ≡ slice_index first i }
+    ensures second { (i : ℕ) → i < 3 → slice_index result (3 * i + 1) ≡ slice_index second i }
+    ensures third { (i : ℕ) → i < 3 → slice_index result (3 * i + 2) ≡ slice_index third i }
     ensures below { AreBelow result }
 {
-    let mut sums = [0; 3];
-    for t in 0..q as usize {
-        sums[t] = sum_of(weights, values, q, action, t, t);
-    }
-    sums
+    [
+        first[0], second[0], third[0], first[1], second[1], third[1], first[2], second[2], third[2],
+    ]
 }
 
-// The sum of two different qubits, and 0 where they are the same or one of them is none.
-fn crossed(weights: &[u64; 64], values: &[u64; 64], q: u64, c: usize, t: usize) -> u64
-    requires qubits { q ≤ 3 }
-    requires values { AreBelow values.now }
-    ensures sum { c < q → t < q → c ≢ t → result ≡ sum_after (step_on_qubits Cross q c t) (entries_on q) weights.now values.now % modulus }
-    ensures below { result < modulus }
-{
-    if c < q as usize && t < q as usize && c != t {
-        sum_of(weights, values, q, Action::Cross, c, t)
-    } else {
-        0
-    }
-}
-
-// The sums of each two different qubits.
-fn on_each_two(weights: &[u64; 64], values: &[u64; 64], q: u64) -> [u64; 9]
-    requires qubits { q ≤ 3 }
-    requires values { AreBelow values.now }
-    ensures sums { (c t : ℕ) → c < q → t < q → c ≢ t → slice_index result (3 * c + t) ≡ sum_after (step_on_qubits Cross q c t) (entries_on q) weights.now values.now % modulus }
-    ensures below { AreBelow result }
-{
-    let mut sums = [0; 9];
-    for k in 0..9 {
-        sums[k] = crossed(weights, values, q, k / 3, k % 3);
-    }
-    sums
-}
-
-// All sums.
+// All sums. Those of qubits that a row does not have are asked for by nobody.
 pub(crate) fn all_sums(weights: &[u64; 64], values: &[u64; 64], q: u64) -> Sums
     requires qubits { q ≤ 3 }
-    requires values { AreBelow values.now }
     ensures sums { HasSums q weights.now values.now result }
     ensures below { AreSums result }
 {
+    let rows = row_sums(weights, values, q, 0);
+    let first = row_sums(weights, values, q, 1);
+    let second = row_sums(weights, values, q, 2);
+    let third = row_sums(weights, values, q, 4);
     Sums {
-        kept: on_each(weights, values, q, Action::Keep),
-        cleared: on_each(weights, values, q, Action::Clear),
-        flipped: on_each(weights, values, q, Action::Flip),
-        crossed: on_each_two(weights, values, q),
+        kept: totals_where(&rows, true),
+        cleared: totals_where(&rows, false),
+        flipped: [total(&first), total(&second), total(&third)],
+        crossed: by_rows(
+            totals_where(&first, true),
+            totals_where(&second, true),
+            totals_where(&third, true),
+        ),
     }
 }
 

@@ -1,12 +1,12 @@
 //! Tables of a probe.
-ghost use Rattle.std.specs.Prelude.{◌≡◌, ◌*◌, ◌^◌, ◌%◌, ◌<◌, if◌then◌else◌, slice_index};
+ghost use Rattle.std.specs.Prelude.{◌≡◌, ◌*◌, ◌^◌, ◌%◌, ◌<◌, slice_index};
 ghost use Rattle.qz_circ.specs.Circuit.{AngleHasBelow};
 ghost use Rattle.qz_circ.specs.Exponent.{angle_exponent};
 ghost use Rattle.qz_finger.specs.Modulo.{modulus};
 ghost use Rattle.qz_finger.specs.Fingerprint.{Bases, value};
 ghost use Rattle.qz_finger.specs.Tables.{powers_of, three_of, tables_of};
 
-use crate::modulo::multiply;
+use crate::modulo::{multiply, multiply_where};
 use qz_circ::Expr;
 
 /// The weights of one kind of values, and what angles are worth by it: the powers of the root, and the parameters with the
@@ -30,14 +30,6 @@ pub(crate) fn powers(base: u64) -> [u64; 8]
         power = multiply(power, base);
     }
     powers
-}
-
-// The product, if it is wanted, and else the first number, which is below p.
-fn multiply_where(wanted: bool, a: u64, b: u64) -> u64
-    requires { a < modulus }
-    ensures { result ≡ (if wanted then a * b else a) % modulus }
-{
-    if wanted { multiply(a, b) } else { a }
 }
 
 // The power, by squares.

@@ -5,6 +5,7 @@ ghost use Rattle.qz_finger.specs.Actions.{AreBelow};
 ghost use Rattle.qz_finger.specs.Modulo.{modulus, half};
 ghost use Rattle.qz_finger.specs.Weights.{entries_on};
 
+use crate::fill::filled;
 use crate::modulo::multiply;
 use qz_circ::Op;
 use std::marker::Model;
@@ -13,9 +14,9 @@ use std::marker::Model;
 const HALF: u64 = 9223372034707292161;
 
 /// The values of the entries of a circuit's matrix, by the bases of a probe and by their inverses, modulo p. The circuit's
-/// fingerprint is made of them.
+/// fingerprint is made of them, and the values of the circuit with one gate more.
 #[derive(Drop)]
-pub(crate) struct Values {
+pub struct Values {
     pub(crate) values: [u64; 64],
     pub(crate) inverses: [u64; 64],
     pub(crate) scale: u64,
@@ -29,6 +30,15 @@ impl Model for Values {
     ghost view = { λ s. record { values = s.values; inverses = s.inverses; scale = s.scale } };
 
     ghost invariant = { λ s. AreValueLists (record { values = s.values; inverses = s.inverses; scale = s.scale }) };
+}
+
+// How many rows a matrix on q qubits has.
+pub(crate) fn rows_on(q: u64) -> usize
+    requires { q ≤ 3 }
+    ensures value { result ≡ 2 ^ q }
+    ensures small { result ≤ 8 }
+{
+    1 << q
 }
 
 // How many entries a matrix on q qubits has.
@@ -53,12 +63,8 @@ pub(crate) fn identity(q: u64) -> [u64; 64]
     ensures entries { (k : ℕ) → k < entries_on q → slice_index result k ≡ (if k / 2 ^ q == k % 2 ^ q then 1 else 0) }
     ensures below { AreBelow result }
 {
-    let rows: usize = 1 << q;
-    let mut values = [0; 64];
-    for k in 0..size_of(q) {
-        values[k] = entry(k / rows, k % rows);
-    }
-    values
+    let rows = rows_on(q);
+    filled(size_of(q), |k| entry(k / rows, k % rows))
 }
 
 // A scale, halved where the gate is H.

@@ -3,9 +3,11 @@ use Rattle.std.specs.Prelude.{◌≡◌, ℕ, ◌<◌, List, [], ◌∷◌, ◌+
 use Rattle.qz_circ.specs.Circuit.{Limits, below}
 use Rattle.qz_circ.specs.Order.{all_circuits, circuit_at}
 use Rattle.qz_finger.specs.Fingerprint.{ProbeParts}
+use Rattle.qz_finger.specs.Stands.{StandsFor}
 use Rattle.qz_finger.specs.Sums.{Extends}
 use Rattle.qz_shard.specs.Shards.{ShardParts, print_of}
 use Rattle.qz_repgen.specs.declared.front.Front.{Front}
+use Rattle.qz_repgen.specs.declared.front.Start.{Start}
 use Rattle.qz_repgen.specs.Journals.{AreAtHome, home_of}
 
 -- it is shard number k, of these limits and this seed
@@ -52,7 +54,13 @@ with_entry s r = record { number = s.number; bounds = s.bounds; probe = s.probe;
 abbrev pub AddsTo : ℕ → ℕ → List ShardParts → List ShardParts → Type 0
 AddsTo k r old new = (d : ShardParts) → new ≡ slice_set old k (with_entry (slice_index_or old k d) r)
 
--- what fingerprints are made of is that of the circuit with this rank
+-- the values are those of the circuit with this rank
+pub record IsStart (b : Limits) (probe : ProbeParts) (start : Start) : Type 0 where
+  pub listed : start.rank < length (all_circuits b)
+  pub stands : StandsFor probe (circuit_at b start.rank) start.values
+
+-- what fingerprints are made of is that of the circuit with this rank, and the shorter circuit has its values
 pub record IsFront (b : Limits) (probe : ProbeParts) (front : Front) : Type 0 where
   pub listed : front.rank < length (all_circuits b)
   pub extends : Extends probe (circuit_at b front.rank) front.extensions
+  pub start : IsStart b probe front.start

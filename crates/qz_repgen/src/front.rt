@@ -1,34 +1,109 @@
 //! Fingerprints of circuits that differ in their last gate.
-ghost use Rattle.std.specs.Prelude.{◌≡◌, ◌<◌, length, IfOk, OnOk};
+ghost use Rattle.std.specs.Prelude.{◌≡◌, ◌<◌, [], ◌∷◌, ◌++◌, length, IfOk, OnOk};
+ghost use Rattle.qz_circ.specs.Circuit.{ActsBelow, HasBelow};
 ghost use Rattle.qz_circ.specs.Classes.{without_last};
 ghost use Rattle.qz_circ.specs.Order.{all_circuits, circuit_at};
+ghost use Rattle.qz_finger.specs.Sums.{Extends};
 ghost use Rattle.qz_repgen.specs.Journals.{print_at};
-ghost use Rattle.qz_repgen.specs.Shards.{IsFront};
+ghost use Rattle.qz_repgen.specs.Shards.{IsStart, IsFront};
 
-use qz_circ::{Bounds, Memory, op_of, unrank};
-use qz_finger::{Extensions, Probe};
+use qz_circ::{Bounds, Memory, Op, drop_last_rank, op_of, unrank};
+use qz_finger::{Extensions, Probe, Values};
 use std::alloc::Global;
 
-// A circuit, by its rank, and what the fingerprints of it with one gate more are made of.
+// The last gate of the circuit with rank r.
+fn last_gate(b: Bounds, r: u64) -> Op
+    requires some { 0 < r }
+    requires listed { r < length (all_circuits b) }
+    ensures gate { ActsBelow b.q result }
+    ensures parameters { HasBelow 3 result }
+    ensures circuit { circuit_at b r ≡ without_last (circuit_at b r) ++ result ∷ [] }
+{
+    let number = (r - 1) % b.gates();
+    op_of(number, b).unwrap()
+}
+
+// A circuit, by its rank, and its values.
+#[derive(Drop)]
+pub(crate) struct Start {
+    pub(crate) rank: u64,
+    pub(crate) values: Values,
+}
+
+impl Start {
+    // The empty circuit.
+    fn new(b: Bounds, probe: &Probe) -> Start
+        requires qubits { probe.now.q ≡ b.q }
+        ensures { IsStart b probe.now result }
+    {
+        Start {
+            rank: 0,
+            values: probe.values(&[]),
+        }
+    }
+
+    // Goes to the circuit with this rank. Nothing is made anew where it is the same.
+    fn go_to(&mut self, alloc: Global, b: Bounds, probe: &Probe, rank: u64) -> Result<(), Memory>
+        requires listed { rank < length (all_circuits b) }
+        requires qubits { probe.now.q ≡ b.q }
+        requires start { IsStart b probe.now self.old }
+        ensures rank { OnOk result (self.new.rank ≡ rank) }
+        ensures start { OnOk result (IsStart b probe.now self.new) }
+    {
+        if self.rank == rank {
+            return Ok(());
+        }
+        let circuit = unrank(alloc, rank, b)?;
+        *self = Start {
+            rank,
+            values: probe.values(&circuit),
+        };
+        Ok(())
+    }
+
+    // What the fingerprints of the circuit with rank r and one gate more are made of. Where it has a last gate, goes to the circuit
+    // without that.
+    fn extensions(
+        &mut self,
+        alloc: Global,
+        b: Bounds,
+        probe: &Probe,
+        r: u64,
+    ) -> Result<Extensions, Memory>
+        requires listed { r < length (all_circuits b) }
+        requires qubits { probe.now.q ≡ b.q }
+        requires start { IsStart b probe.now self.old }
+        ensures extends { IfOk result (Extends probe.now (circuit_at b r)) }
+        ensures start { OnOk result (IsStart b probe.now self.new) }
+    {
+        if r == 0 {
+            return Ok(probe.extensions(&[]));
+        }
+        self.go_to(alloc, b, probe, drop_last_rank(r, b))?;
+        Ok(probe.extensions_with(&self.values, last_gate(b, r)))
+    }
+}
+
+// A circuit, by its rank, what the fingerprints of it with one gate more are made of, and the values of a shorter circuit. The
+// next circuit mostly is that shorter one with another gate.
 #[derive(Drop)]
 pub(crate) struct Front {
     pub(crate) rank: u64,
     pub(crate) extensions: Extensions,
+    pub(crate) start: Start,
 }
 
 impl Front {
-    // The circuit with this rank.
-    pub(crate) fn new(alloc: Global, b: Bounds, probe: &Probe, rank: u64) -> Result<Front, Memory>
-        requires listed { rank < length (all_circuits b) }
+    // The empty circuit.
+    pub(crate) fn new(b: Bounds, probe: &Probe) -> Front
         requires qubits { probe.now.q ≡ b.q }
-        ensures rank { IfOk result (λ front. front.rank ≡ rank) }
-        ensures front { IfOk result (IsFront b probe.now) }
+        ensures { IsFront b probe.now result }
     {
-        let circuit = unrank(alloc, rank, b)?;
-        Ok(Front {
-            rank,
-            extensions: probe.extensions(&circuit),
-        })
+        Front {
+            rank: 0,
+            extensions: probe.extensions(&[]),
+            start: Start::new(b, probe),
+        }
     }
 
     // Goes to the circuit with this rank. Nothing is made anew where it is the same.
@@ -46,7 +121,8 @@ impl Front {
         ensures front { OnOk result (IsFront b probe.now self.new) }
     {
         if self.rank != rank {
-            *self = Front::new(alloc, b, probe, rank)?;
+            self.extensions = self.start.extensions(alloc, b, probe, rank)?;
+            self.rank = rank;
         }
         Ok(())
     }
@@ -60,8 +136,6 @@ impl Front {
         requires last { circuit_at b self.now.rank ≡ without_last (circuit_at b r) }
         ensures { result ≡ print_at b probe.now.seed r }
     {
-        let number = (r - 1) % b.gates();
-        let op = op_of(number, b).unwrap();
-        probe.finger_with(&self.extensions, op)
+        probe.finger_with(&self.extensions, last_gate(b, r))
     }
 }

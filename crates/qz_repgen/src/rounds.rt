@@ -66,7 +66,7 @@ fn round<L: Ledger>(
 {
     let parts = firsts(alloc, b, shards, k)?;
     let left = candidates(alloc, &parts, b)?;
-    let mut front = Front::new(alloc, b, probe, 0)?;
+    let mut front = Front::new(b, probe);
     for r in &left {
         front.go_to(alloc, b, probe, drop_last_rank(*r, b))?;
         let print = front.print_with(b, probe, *r);

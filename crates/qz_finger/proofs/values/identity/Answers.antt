@@ -1,6 +1,10 @@
-use Rattle.std.proofs.Common.{refl, arith}
-use Rattle.qz_finger.proofs.Lists.{zeros_below}
+use Rattle.std.proofs.Common.{rules, ◌≡◌, ◌/◌, ◌%◌, ◌<◌, ◌==◌, sym, subst, ◌∙◌}
+use Rattle.std.specs.Prelude.{slice_index, if◌then◌else◌}
 use Rattle.qz_finger.proofs.values.identity.Goals as goal
 
-pub loop-k-init : goal.loop-k-init
-loop-k-init c = record { size = refl; entries = λ m h. absurd (omega arith); below = zeros_below 64 }
+pub returns-clause-entries : goal.returns-clause-entries
+returns-clause-entries c = λ k less.
+    let rows = c.rows_on-rows.result in
+    let within = subst (λ n. k < n) (sym c.size_of.ensures.size) less in
+    let made : slice_index c.filled.result k ≡ (if k / rows == k % rows then 1 else 0) = search (rules, c.filled.ensures.numbers k within) in
+    made ∙ (λ d. if k / c.rows_on-rows.ensures.value d == k % c.rows_on-rows.ensures.value d then 1 else 0)

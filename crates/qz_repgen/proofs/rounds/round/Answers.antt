@@ -4,7 +4,6 @@ use Rattle.qz_circ.specs.ClassLists.{AreRanks}
 use Rattle.qz_shard.specs.Shards.{ShardParts}
 use Rattle.qz_repgen.proofs.RankRows.{some_rank}
 use Rattle.qz_repgen.proofs.RoundLemmas.{IsTaken, taken_none, taken_all, next_is, next_new, taken_more, parts_listed, parts_of_one_length, parts_number, left_listed}
-use Rattle.qz_repgen.proofs.RoundSteps.{some_circuit}
 use Rattle.qz_repgen.proofs.ShardLemmas.{ranks_of_all, ready, held_more}
 use Rattle.qz_repgen.specs.Rounds.{IsKeptUpTo}
 use Rattle.qz_repgen.proofs.rounds.round.Goals as goal
@@ -21,14 +20,11 @@ candidates-requires-clause-rising g c = (parts_listed c.args.b c.requires.lawful
 pub candidates-requires-clause-one_length : goal.candidates-requires-clause-one_length
 candidates-requires-clause-one_length g c = parts_of_one_length c.args.b c.requires.lawful c.args.probe.now.seed c.args.k c.args.shards.now.items c.requires.held c.deref.result.now c.deref.ensures.value c.in_ok-parts.parts.items c.in_ok-parts.ensures c.deref-2.result.now c.deref-2.ensures.value c.requires.short
 
-pub new-requires-clause-listed : goal.new-requires-clause-listed
-new-requires-clause-listed g c = some_circuit c.args.b c.requires.lawful
-
 -- no candidate is taken in yet
 pub loop-r-init : goal.loop-r-init
 loop-r-init g c =
     let left = left_listed c.args.b c.requires.lawful c.args.probe.now.seed c.args.k c.args.shards.now.items c.requires.held c.deref.result.now c.deref.ensures.value c.in_ok-parts.parts.items c.in_ok-parts.ensures c.deref-2.result.now c.deref-2.ensures.value c.in_ok-left.left.items c.in_ok-left.ensures c.deref-r-items.result.now c.deref-r-items.ensures.value in
-    (c.in_ok-front.ensures.front, taken_none c.args.b c.requires.lawful c.args.probe.now.seed c.args.k c.deref-r-items.result.now left c.args.shards.now.items c.requires.held)
+    (c.new-front.ensures, taken_none c.args.b c.requires.lawful c.args.probe.now.seed c.args.k c.deref-r-items.result.now left c.args.shards.now.items c.requires.held)
 
 -- the next candidate
 pub drop_last_rank-requires-clause-some_gate : goal.drop_last_rank-requires-clause-some_gate

@@ -1,4 +1,4 @@
-use Rattle.std.proofs.Common.{◌≡◌, ◌*◌, ◌%◌, ◌≤◌, sym, subst, ◌∙◌, arith}
+use Rattle.std.proofs.Common.{◌≡◌, ◌*◌, ◌%◌, ◌≤◌, sym, subst, ◌∙◌, zero-add, arith}
 use Rattle.std.specs.Prelude.{slice_index}
 use Rattle.qz_finger.specs.Modulo.{modulus, sum_below}
 use Rattle.qz_finger.specs.Weights.{entries_on}
@@ -20,7 +20,7 @@ returns c = λ circuit stands.
     let few : entries_on q ≤ 64 = omega (arith, c.size_of-size.ensures.small, size) in
     let weights = value_weights seed q c.self.inside.values c.self.invariant.values in
     let inverses = inverse_weights seed q c.self.inside.inverses c.self.invariant.inverses in
-    let first = c.weigh-first.ensures ∙ (λ d. sum_below (λ k. slice_index (weights d) k * slice_index s.values k) (size d) % modulus) in
-    let second = c.weigh-second.ensures ∙ (λ d. sum_below (λ k. slice_index (inverses d) k * slice_index s.inverses k) (size d) % modulus) in
+    let first = c.weigh-first.ensures ∙ (λ d. sum_below (λ k. slice_index (weights d) (zero-add k d) * slice_index s.values (zero-add k d)) (size d) % modulus) in
+    let second = c.weigh-second.ensures ∙ (λ d. sum_below (λ k. slice_index (inverses d) (zero-add k d) * slice_index s.inverses (zero-add k d)) (size d) % modulus) in
     subst (λ (x : ProbeParts). c.multiply-2.result ≡ fingerprint x.seed x.q circuit) c.self.view_is
     (print_of p circuit s c.weigh-first.result c.weigh-second.result c.multiply.result c.multiply-2.result few before first second c.multiply.ensures c.multiply-2.ensures)

@@ -1,11 +1,16 @@
 use Rattle.std.proofs.Common.{sym, subst, rules}
 use Rattle.qz_circ.specs.Bounds.{IsLawful}
-use Rattle.qz_circ.specs.Circuit.{Within}
-use Rattle.qz_repgen.proofs.LowerLaws.{on_qubits}
+use Rattle.qz_circ.specs.Circuit.{Circuit}
+use Rattle.qz_circ.proofs.CircuitPlaces.{circuit_at-zero}
+use Rattle.qz_finger.specs.Sums.{Extends}
+use Rattle.qz_repgen.proofs.RoundSteps.{some_circuit}
 use Rattle.qz_repgen.proofs.front.Front.new.Goals as goal
 
--- the circuit is on the probe's qubits
-pub extensions-requires : goal.extensions-requires
-extensions-requires c =
+pub returns : goal.returns
+returns c =
     let lawful : IsLawful c.args.b = search rules in
-    on_qubits c.args.b lawful c.args.probe.now.q c.requires.qubits c.deref.result.now (subst (Within c.args.b) (sym c.deref.ensures.value) c.in_ok-circuit.ensures.within)
+    record {
+      listed = some_circuit c.args.b lawful;
+      extends = subst (λ (x : Circuit). Extends c.args.probe.now x c.extensions.result) (sym (circuit_at-zero c.args.b)) c.extensions.ensures;
+      start = c.new.ensures;
+    }

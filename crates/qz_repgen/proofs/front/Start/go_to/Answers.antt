@@ -1,0 +1,11 @@
+use Rattle.std.proofs.Common.{sym, subst, rules}
+use Rattle.qz_circ.specs.Bounds.{IsLawful}
+use Rattle.qz_circ.specs.Circuit.{Within}
+use Rattle.qz_repgen.proofs.LowerLaws.{on_qubits}
+use Rattle.qz_repgen.proofs.front.Start.go_to.Goals as goal
+
+-- the circuit is on the probe's qubits
+pub values-requires : goal.values-requires
+values-requires c =
+    let lawful : IsLawful c.args.b = search rules in
+    on_qubits c.args.b lawful c.args.probe.now.q c.requires.qubits c.deref.result.now (subst (Within c.args.b) (sym c.deref.ensures.value) c.in_ok-circuit.ensures.within)
