@@ -14,3 +14,4 @@ pub mod RankRows
 pub mod CandidateRows
 pub mod RoundSteps
 pub mod FirstRanks
+pub mod ReportLaws

@@ -16,9 +16,9 @@ use Rattle.qz_circ.specs.Order.{all_circuits, circuit_at}
 use Rattle.qz_paths.proofs.Equivalences.{reflexive, symmetric, transitive}
 use Rattle.qz_finger.specs.Fingerprint.{fingerprint}
 use Rattle.qz_finger.proofs.Law.{one_fingerprint}
-use Rattle.qz_shard.specs.Journals.{AreEquivalentRanks, AreClassesBy, AreClassesOf}
+use Rattle.qz_shard.specs.Journals.{AreEquivalentRanks, AreClassesBy, AreClassesOf, AddsMember}
 use Rattle.qz_shard.specs.Shards.{ShardParts, IsShard, IsAtHome, print_of, classes_with, different_prints}
-use Rattle.qz_shard.specs.Held.{IsLastBelow, IsHeldBy, HasMembers, AddsMember}
+use Rattle.qz_shard.specs.Held.{IsLastBelow, IsHeldBy, HasMembers}
 use Rattle.qz_shard.proofs.Partitions as partition
 use Rattle.qz_shard.proofs.Zipped.{zip_by, zip_count}
 

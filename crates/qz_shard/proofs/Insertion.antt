@@ -8,7 +8,7 @@ use Rattle.std.proofs.lemmas.List.Edits.{length-insert, get_or-insert_below, get
 use Rattle.std.proofs.lemmas.List.Kept.{AllPairs-from_increasing}
 use Rattle.std.proofs.lemmas.List.Sorted.{IsPermutation-insert, IsPermutation-sym, Contains-permutation}
 use Rattle.qz_circ.proofs.ClassLaws.{contains_cases, contains_first, contains_rest}
-use Rattle.qz_shard.specs.Held.{AddsMember}
+use Rattle.qz_shard.specs.Journals.{AddsMember}
 
 -- a rising list doesn't fall
 pub not_falling : (xs : List ℕ) → IsStrictlyIncreasing xs → (i j : ℕ) → i ≤ j → j < length xs → get_or xs i 0 ≤ get_or xs j 0

@@ -9,9 +9,8 @@ use Rattle.std.proofs.lemmas.List.Elements.{Contains-append_left, Contains-push,
 use Rattle.std.proofs.lemmas.List.Kept.{AllPairs-from_increasing}
 use Rattle.std.proofs.lemmas.List.Quantifiers.{all_pairs_push}
 use Rattle.qz_circ.specs.Classes.{ListsExactly}
-use Rattle.qz_circ.proofs.ClassLaws.{lists_exactly_same}
-use Rattle.qz_shard.specs.Journals.{IsEarliest, IsRelatedEntry, AreClassesBy}
-use Rattle.qz_shard.specs.Held.{AddsMember}
+use Rattle.qz_circ.proofs.ClassLaws.{Rises, contains_cases, contains_first, contains_rest, rises_tail, first_below, lists_exactly_same}
+use Rattle.qz_shard.specs.Journals.{IsEarliest, IsRelatedEntry, AreClassesBy, AddsMember, JoinsOne}
 use Rattle.qz_shard.proofs.Zipped.{zip_length, zip_at, zip_by, zip_push, zip_weaker, zip_same, contains_or_not}
 
 -- at most one list has the classes of a journal
@@ -49,6 +48,40 @@ few_classes R journal classes are =
     let size = zip_length (λ i c. ListsExactly (IsRelatedEntry R journal i) c) are.earliest classes are.each_class in
     let short = rising_short are.earliest (length journal) are.each_earliest.rising (λ i has. ((are.each_earliest.exactly i).0 has).within) in
     omega arith
+
+-- of two rising lists, the first of which has the numbers of the second that are below n: their first numbers are the same
+fronts_meet : (x y n : ℕ) (xs ys : List ℕ) → Rises (x ∷ xs) → Rises (y ∷ ys) → ((i : ℕ) → Contains (x ∷ xs) i → (i < n) × Contains (y ∷ ys) i) → ((i : ℕ) → Contains (y ∷ ys) i → i < n → Contains (x ∷ xs) i) → x ≡ y
+fronts_meet x y n xs ys rx ry to from =
+    let there = to x (contains_first x xs) in
+    elim (contains_cases y ys x there.1) [
+      | inl same ↦ sym same
+      | inr later ↦ elim (contains_cases x xs y (from y (contains_first y ys) (omega (arith, first_below y ys ry x later, there.0)))) [
+        | inl same ↦ same
+        | inr later' ↦ absurd (omega (arith, first_below y ys ry x later, first_below x xs rx y later'))
+      ]
+    ]
+
+-- and the first list is the front of the second
+pub rising_front : (xs ys : List ℕ) (n : ℕ) → Rises xs → Rises ys → ((i : ℕ) → Contains xs i → (i < n) × Contains ys i) → ((i : ℕ) → Contains ys i → i < n → Contains xs i) →
+    (k : ℕ) → k < length xs → (k < length ys) × (get_or xs k 0 ≡ get_or ys k 0)
+rising_front [] ys n rx ry to from k within = absurd (omega arith)
+rising_front (x ∷ xs) [] n rx ry to from k within = let there = (to x (contains_first x xs)).1 in absurd (omega (arith, there.1))
+rising_front (x ∷ xs) (y ∷ ys) n rx ry to from zero within = (omega arith, fronts_meet x y n xs ys rx ry to from)
+rising_front (x ∷ xs) (y ∷ ys) n rx ry to from (suc k) within =
+    let meet = fronts_meet x y n xs ys rx ry to from in
+    let to_rest : (i : ℕ) → Contains xs i → (i < n) × Contains ys i = λ i has. let there = to i (contains_rest x xs i has) in (
+      there.0,
+      elim (contains_cases y ys i there.1) [
+        | inl same ↦ absurd (omega (arith, first_below x xs rx i has, same, meet))
+        | inr later ↦ later
+      ],
+    ) in
+    let from_rest : (i : ℕ) → Contains ys i → i < n → Contains xs i = λ i has below. elim (contains_cases x xs i (from i (contains_rest y ys i has) below)) [
+      | inl same ↦ absurd (omega (arith, first_below y ys ry i has, same, meet))
+      | inr later ↦ later
+    ] in
+    let rest = rising_front xs ys n (rises_tail x xs rx) (rises_tail y ys ry) to_rest from_rest k (omega arith) in
+    (omega (arith, rest.0), rest.1)
 
 -- the only element of a list
 pub contains_one : (y x : ℕ) → Contains (y ∷ []) x → y ≡ x
@@ -176,20 +209,20 @@ module _ (R : ℕ → ℕ → Type 0) (reflexive : (r : ℕ) → R r r) (symmetr
     longer_by_one : (r : ℕ) → length (longer r) ≡ length journal + 1
     longer_by_one r = length-append journal (r ∷ [])
 
-    -- an entry that was the earliest stays so
-    stays_earliest : (r i : ℕ) → IsEarliest R journal i → IsEarliest R (longer r) i
-    stays_earliest r i h = record {
-      within = omega (arith, longer_by_one r, h.within);
-      first = λ j below related. h.first j below (subst (λ x. R x (entry i)) (old_entry r j (omega (arith, h.within)))
-          (subst (λ x. R (entry_of_longer r j) x) (old_entry r i h.within) related));
+    -- an entry that was the earliest stays so, whatever comes after it
+    stays_earliest : (more : List ℕ) (i : ℕ) → IsEarliest R journal i → IsEarliest R (journal ++ more) i
+    stays_earliest more i h = record {
+      within = omega (arith, length-append journal more, h.within);
+      first = λ j below related. h.first j below (subst (λ x. R x (entry i)) (get_or_append_left journal more 0 j (omega (arith, h.within)))
+          (subst (R (get_or (journal ++ more) j 0)) (get_or_append_left journal more 0 i h.within) related));
     }
 
     -- an old entry that is the earliest was so
-    was_earliest : (r i : ℕ) → i < length journal → IsEarliest R (longer r) i → IsEarliest R journal i
-    was_earliest r i within h = record {
+    was_earliest : (more : List ℕ) (i : ℕ) → i < length journal → IsEarliest R (journal ++ more) i → IsEarliest R journal i
+    was_earliest more i within h = record {
       within = within;
-      first = λ j below related. h.first j below (subst (λ x. R x (entry_of_longer r i)) (sym (old_entry r j (omega arith)))
-          (subst (λ x. R (entry j) x) (sym (old_entry r i within)) related));
+      first = λ j below related. h.first j below (subst (λ x. R x (get_or (journal ++ more) i 0)) (sym (get_or_append_left journal more 0 j (omega arith)))
+          (subst (R (entry j)) (sym (get_or_append_left journal more 0 i within)) related));
     }
 
     -- what lists the entries to which an old one is related lists those of the longer journal, where the new one isn't
@@ -228,9 +261,9 @@ module _ (R : ℕ → ℕ → Type 0) (reflexive : (r : ℕ) → R r r) (symmetr
       each_earliest = record {
         rising = are.each_earliest.rising;
         exactly = λ i. (
-          λ listed. stays_earliest r i ((are.each_earliest.exactly i).0 listed),
+          λ listed. stays_earliest (r ∷ []) i ((are.each_earliest.exactly i).0 listed),
           λ h. (are.each_earliest.exactly i).1 (elim (cases_lt i (length journal)) [
-            | inl old ↦ was_earliest r i old h
+            | inl old ↦ was_earliest (r ∷ []) i old h
             | inr last ↦ absurd (not_first i (omega (arith, h.within, longer_by_one r)) h)
           ]),
         );
@@ -267,11 +300,11 @@ module _ (R : ℕ → ℕ → Type 0) (reflexive : (r : ℕ) → R r r) (symmetr
         rising = increasing_push are.earliest (length journal) are.each_earliest.rising (λ i listed. ((are.each_earliest.exactly i).0 listed).within);
         exactly = λ i. (
           λ listed. elim (Contains-push_cases are.earliest (length journal) i listed) [
-            | inl old ↦ stays_earliest r i ((are.each_earliest.exactly i).0 old)
+            | inl old ↦ stays_earliest (r ∷ []) i ((are.each_earliest.exactly i).0 old)
             | inr same ↦ subst (IsEarliest R (longer r)) same last
           ],
           λ h. elim (cases_lt i (length journal)) [
-            | inl old ↦ Contains-append_left are.earliest (length journal ∷ []) i ((are.each_earliest.exactly i).1 (was_earliest r i old h))
+            | inl old ↦ Contains-append_left are.earliest (length journal ∷ []) i ((are.each_earliest.exactly i).1 (was_earliest (r ∷ []) i old h))
             | inr at_end ↦ let here : length journal ≡ i = omega (arith, h.within, longer_by_one r) in subst (Contains (are.earliest ++ length journal ∷ [])) here (Contains-push are.earliest (length journal))
           ],
         );
@@ -302,3 +335,76 @@ module _ (R : ℕ → ℕ → Type 0) (reflexive : (r : ℕ) → R r r) (symmetr
             ],
           );
         }
+
+    -- what lists the entries of the longer journal to which an old one is related has the new entry beside the old ones, where it is related too
+    adds_new : (r i k : ℕ) (new : List ℕ) → i < length journal → k < length classes → Contains (class k) (entry i) → R (entry i) r → ListsExactly (IsRelatedEntry R (longer r) i) new → AddsMember r (class k) new
+    adds_new r i k new within inside has related lists = record {
+      rising = lists.rising;
+      exactly = λ s. (
+        λ there. let h = (lists.exactly s).0 there in elim (Contains-push_cases journal r s h.0) [
+          | inl old ↦ inl (related_member k (entry i) s inside has old (subst (λ x. R x s) (old_entry r i within) h.1))
+          | inr same ↦ inr (sym same)
+        ],
+        λ either. elim either [
+          | inl before ↦ (lists.exactly s).1 (
+            Contains-append_left journal (r ∷ []) s (member_entry k s inside before),
+            subst (λ x. R x s) (sym (old_entry r i within)) (members_related k (entry i) s inside has before),
+          )
+          | inr same ↦ (lists.exactly s).1 (
+            subst (Contains (longer r)) (sym same) (Contains-push journal r),
+            subst (λ x. R x s) (sym (old_entry r i within)) (subst (R (entry i)) (sym same) related),
+          )
+        ],
+      );
+    }
+
+  -- with one more entry the classes are the same, but for one that has it as one more member, or for a class of it alone at the end
+  pub grown : (r : ℕ) (journal : List ℕ) (classes later : List (List ℕ)) → AreClassesBy R journal classes → AreClassesBy R (journal ++ r ∷ []) later → JoinsOne r classes later ⊎ (later ≡ classes ++ (r ∷ []) ∷ [])
+  grown r journal classes later are are_later = by (cases_lt first (length journal))
+    where
+      -- the class of the new entry, and the place of its earliest entry
+      there : (k : ℕ) × (k < length later) × Contains (get_or later k []) r
+      there = covered (journal ++ r ∷ []) later are_later r (Contains-push journal r)
+
+      first : ℕ
+      first = place (journal ++ r ∷ []) later are_later there.0
+
+      lists : ListsExactly (IsRelatedEntry R (journal ++ r ∷ []) first) (get_or later there.0 [])
+      lists = class_lists (journal ++ r ∷ []) later are_later there.0 there.1
+
+      earliest : IsEarliest R (journal ++ r ∷ []) first
+      earliest = place_earliest (journal ++ r ∷ []) later are_later there.0 there.1
+
+      by : (first < length journal) ⊎ (length journal ≤ first) → JoinsOne r classes later ⊎ (later ≡ classes ++ (r ∷ []) ∷ [])
+      by (inl old) =
+          let related : R (get_or journal first 0) r = subst (λ x. R x r) (old_entry journal classes are r first old) ((lists.exactly r).0 there.2).1 in
+          let home = covered journal classes are (get_or journal first 0) (Contains-get_or journal first 0 old) in
+          let adds = adds_new journal classes are r first home.0 (get_or later there.0 []) old home.1 home.2 related lists in
+          let made = joined journal classes are home.0 r (get_or journal first 0) (get_or later there.0 []) home.1 home.2 (symmetric (get_or journal first 0) r related) adds in
+          inl (record { number = home.0; within = home.1; class = get_or later there.0 []; adds = adds; lists = classes_same R (journal ++ r ∷ []) later (set classes home.0 (get_or later there.0 [])) are_later made })
+      by (inr last) =
+          let at_end : first ≡ length journal = omega (arith, earliest.within, longer_by_one journal classes are r) in
+          let none : (x : ℕ) → Contains journal x → R r x → ⊥ = λ x has related.
+          earliest.first has.0 (omega (arith, has.1))
+          (subst (λ y. R y (get_or (journal ++ r ∷ []) first 0)) (sym (old_entry journal classes are r has.0 has.1 ∙ sym (get_or_default journal has.0 x 0 has.1) ∙ has.2))
+          (subst (R x) (sym (ap (λ i. get_or (journal ++ r ∷ []) i 0) at_end ∙ new_entry journal classes are r)) (symmetric r x related))) in
+          inr (classes_same R (journal ++ r ∷ []) later (classes ++ (r ∷ []) ∷ []) are_later (opened journal classes are r none))
+
+  -- whatever comes after a journal, the members of a class stay in the class with its number
+  pub stays : (journal more : List ℕ) (classes later : List (List ℕ)) → AreClassesBy R journal classes → AreClassesBy R (journal ++ more) later → (k s : ℕ) → k < length classes → Contains (get_or classes k []) s → Contains (get_or later k []) s
+  stays journal more classes later are are_later k s within has =
+      let sizes = size journal classes are in
+      let later_sizes = size (journal ++ more) later are_later in
+      let front = rising_front are.earliest are_later.earliest (length journal) (AllPairs-from_increasing are.earliest are.each_earliest.rising) (AllPairs-from_increasing are_later.earliest are_later.each_earliest.rising) to from k (omega arith) in
+      let old = ((class_lists journal classes are k within).exactly s).0 has in
+      let first = (place_earliest journal classes are k within).within in
+      ((class_lists (journal ++ more) later are_later k (omega (arith, front.0))).exactly s).1 (
+        Contains-append_left journal more s old.0,
+        subst (λ i. R (get_or (journal ++ more) i 0) s) front.1 (subst (λ x. R x s) (sym (get_or_append_left journal more 0 (place journal classes are k) first)) old.1),
+      )
+    where
+      to : (i : ℕ) → Contains are.earliest i → (i < length journal) × Contains are_later.earliest i
+      to i listed = let h = (are.each_earliest.exactly i).0 listed in (h.within, (are_later.each_earliest.exactly i).1 (stays_earliest journal classes are more i h))
+
+      from : (i : ℕ) → Contains are_later.earliest i → i < length journal → Contains are.earliest i
+      from i listed below = (are.each_earliest.exactly i).1 (was_earliest journal classes are more i below ((are_later.each_earliest.exactly i).0 listed))

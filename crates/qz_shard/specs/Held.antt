@@ -1,11 +1,11 @@
 -- What a shard in memory keeps: its classes, of which those with one fingerprint form a chain.
-use Rattle.std.specs.Prelude.{◌≡◌, ◌≢◌, ◌↔◌, ◌⊎◌, ℕ, ◌+◌, ◌<◌, ◌≤◌, nat_eq, if◌then◌else◌, Option, Some, None, is_some, List, [], ◌∷◌, ◌++◌, length, map, slice_index, slice_index_or, slice_set, Contains, All}
+use Rattle.std.specs.Prelude.{◌≡◌, ◌≢◌, ℕ, ◌+◌, ◌<◌, ◌≤◌, nat_eq, if◌then◌else◌, Option, Some, None, is_some, List, [], ◌∷◌, ◌++◌, length, map, slice_index, slice_index_or, slice_set, Contains, All}
 use Rattle.std.specs.List.Sorted.{IsStrictlyIncreasing}
 use Rattle.indexmap.specs.IndexMap.{IndexMap, get, index_map_len}
 use Rattle.qz_circ.specs.Circuit.{Limits}
 use Rattle.qz_circ.specs.Order.{all_circuits}
 use Rattle.qz_shard.specs.declared.class.Class.{Class}
-use Rattle.qz_shard.specs.Journals.{AreClassesOf, AreEquivalentRanks}
+use Rattle.qz_shard.specs.Journals.{AreClassesOf, AreEquivalentRanks, AddsMember}
 use Rattle.qz_shard.specs.Shards.{ShardParts, IsShard, print_of, different_prints}
 
 -- the fingerprints of the classes
@@ -41,11 +41,6 @@ AreLinked classes = (k : ℕ) → k < length classes → IsLastBelow (prints_in 
 pub record HasMembers (b : Limits) (members : List ℕ) : Type 0 where
   pub some : 0 < length members
   pub listed : All (λ r. r < length (all_circuits b)) members
-
--- new is old with r as one more member, in its place
-pub record AddsMember (r : ℕ) (old new : List ℕ) : Type 0 where
-  pub rising : IsStrictlyIncreasing new
-  pub exactly : (s : ℕ) → Contains new s ↔ (Contains old s ⊎ (s ≡ r))
 
 -- what a shard keeps of its classes fits the journal: their members are the journal's classes; each class has the fingerprint of its
 -- members; each link leads to the last earlier class with the fingerprint; newest tells the last of all; and there is a key for each fingerprint

@@ -1,6 +1,7 @@
 -- The classes of a journal: its entries, put together where they are related.
-use Rattle.std.specs.Prelude.{ℕ, ◌<◌, List, length, slice_index, Contains}
+use Rattle.std.specs.Prelude.{◌≡◌, ◌↔◌, ◌⊎◌, ℕ, ◌<◌, List, [], length, slice_index, slice_index_or, slice_set, Contains}
 use Rattle.std.specs.List.{AllZip}
+use Rattle.std.specs.List.Sorted.{IsStrictlyIncreasing}
 use Rattle.qz_circ.specs.Circuit.{Limits}
 use Rattle.qz_circ.specs.Classes.{ListsExactly}
 use Rattle.qz_circ.specs.Equivalence.{Equivalent}
@@ -30,3 +31,16 @@ AreEquivalentRanks b r s = Equivalent b.q (circuit_at b r) (circuit_at b s)
 -- earliest entry of each one came into the journal
 unfoldable pub AreClassesOf : Limits → List ℕ → List (List ℕ) → Type 0
 AreClassesOf b journal classes = AreClassesBy (AreEquivalentRanks b) journal classes
+
+-- new is old with r as one more member, in its place
+pub record AddsMember (r : ℕ) (old new : List ℕ) : Type 0 where
+  pub rising : IsStrictlyIncreasing new
+  pub exactly : (s : ℕ) → Contains new s ↔ (Contains old s ⊎ (s ≡ r))
+
+-- new is old with r as one more member of one of the classes
+pub record JoinsOne (r : ℕ) (old new : List (List ℕ)) : Type 0 where
+  pub number : ℕ
+  pub within : number < length old
+  pub class : List ℕ
+  pub adds : AddsMember r (slice_index_or old number []) class
+  pub lists : new ≡ slice_set old number class

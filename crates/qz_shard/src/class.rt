@@ -1,7 +1,7 @@
 //! Classes of equivalent circuits.
 ghost use Rattle.std.specs.Prelude.{◌≡◌, ◌<◌, ◌≤◌, ℕ, length, slice_index, Contains, OnOk, OnErr};
 ghost use Rattle.std.specs.List.Sorted.{IsStrictlyIncreasing};
-ghost use Rattle.qz_shard.specs.Held.{AddsMember};
+ghost use Rattle.qz_shard.specs.Journals.{AddsMember};
 
 use qz_circ::Memory;
 use smallvec::SmallVec;

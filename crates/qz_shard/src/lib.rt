@@ -7,5 +7,6 @@ mod growth;
 pub mod laws;
 mod search;
 mod shard;
+pub mod worked_values;
 
 pub use shard::Shard;

@@ -1,7 +1,7 @@
 use Rattle.std.proofs.Common.{◌≡◌, sym, subst, rules}
 use Rattle.std.specs.List.{insert}
 use Rattle.std.specs.List.Sorted.{IsStrictlyIncreasing}
-use Rattle.qz_shard.specs.Held.{AddsMember}
+use Rattle.qz_shard.specs.Journals.{AddsMember}
 use Rattle.qz_shard.proofs.Insertion.{adds_member}
 use Rattle.qz_shard.proofs.class.add_member.Goals as goal
 

@@ -1,5 +1,5 @@
 use Rattle.std.proofs.Common.{[], ◌∷◌, ◌++◌, sym, subst, ap, ◌∙◌}
-use Rattle.qz_shard.specs.Held.{AddsMember}
+use Rattle.qz_shard.specs.Journals.{AddsMember}
 use Rattle.qz_shard.proofs.ClassParts.{members_read, prints_set, links_set, members_kept, members_set, on_err}
 use Rattle.qz_shard.proofs.growth.join.Goals as goal
 
