@@ -12,7 +12,7 @@ use Rattle.qz_top.specs.declared.words.Command.{Command}
 use Rattle.qz_top.specs.declared.words.WordFault.{WordFault}
 use Rattle.qz_top.specs.declared.words.WordFault.TheVariants as word_fault
 use Rattle.qz_top.specs.Status.{IsRefusal, IsBeforeInput, WritesNothing}
-use Rattle.qz_top.specs.Answer.{Answer, Given, Output, Storage, Outside, IsTold, AreTold, IsCalm, refused_with, done, IsCarriedOut}
+use Rattle.qz_top.specs.Answer.{Answer, Given, Output, Storage, Outside, IsTold, AreTold, IsCalm, refused_with, done_with, IsCarriedOut}
 use Rattle.qz_top.specs.Making.{IsToBeWritten, EndsEarly, EndsUnread}
 use Rattle.qz_top.specs.Run.{status_of_words, CommandAnswers, WordsAnswer}
 use Rattle.qz_top.specs.Words.{command_of}
@@ -32,7 +32,6 @@ refusal_writes_nothing status.NoFile r = tt
 refusal_writes_nothing status.ReadFault r = tt
 refusal_writes_nothing status.WriteFault r = r
 refusal_writes_nothing status.ShelfFault r = tt
-refusal_writes_nothing status.Unbuilt r = tt
 
 -- at a status that comes before any input nothing is written
 pub before_writes_nothing : (s : Status) → IsBeforeInput s → WritesNothing s
@@ -47,7 +46,6 @@ before_writes_nothing status.NoFile b = tt
 before_writes_nothing status.ReadFault b = absurd b
 before_writes_nothing status.WriteFault b = b
 before_writes_nothing status.ShelfFault b = tt
-before_writes_nothing status.Unbuilt b = tt
 
 -- what is left of the statuses where something may be written, and there is no write fault
 done_or_memory : (s : Status) → (WritesNothing s → ⊥) → s ≢ status.WriteFault → (s ≡ status.Ok) ⊎ (s ≡ status.Memory)
@@ -62,7 +60,6 @@ done_or_memory status.NoFile n w = absurd (n tt)
 done_or_memory status.ReadFault n w = absurd (n tt)
 done_or_memory status.WriteFault n w = absurd (w refl)
 done_or_memory status.ShelfFault n w = absurd (n tt)
-done_or_memory status.Unbuilt n w = absurd (n tt)
 
 -- a refusal is not success
 refusal_is_not_ok : (s : Status) → IsRefusal s → s ≢ status.Ok
@@ -109,9 +106,9 @@ carried_by_text Answers text s outside made begun whole part failed answered = r
   given = made.given;
   told = made.told;
   refused = λ r. absurd (begun (refusal_writes_nothing s r));
-  ok = λ e. record { answer = done text; is_answer = made.is_answer; done = refl; whole = whole e };
-  write_fault = λ e. record { answer = done text; is_answer = made.is_answer; done = refl; part = part (λ k. cc (e, k)) };
-  memory = λ e. inr (record { answer = done text; is_answer = made.is_answer; done = refl; part = part (λ k. cc (e, k)) });
+  ok = λ e. record { answer = done_with text made.err; is_answer = made.is_answer; done = refl; whole = whole e };
+  write_fault = λ e. record { answer = done_with text made.err; is_answer = made.is_answer; done = refl; part = part (λ k. cc (e, k)) };
+  memory = λ e. inr (record { answer = done_with text made.err; is_answer = made.is_answer; done = refl; part = part (λ k. cc (e, k)) });
   read_failed = λ e. absurd (begun (subst WritesNothing (sym e) tt));
   shelf_failed = λ e. absurd (begun (subst WritesNothing (sym e) tt));
   write_failed = failed;

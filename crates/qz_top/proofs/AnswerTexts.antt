@@ -1,6 +1,7 @@
 -- The answers' texts for the error stream are those of their statuses.
 use Rattle.std.proofs.Common.{◌≡◌, ℕ, ◌∙◌, List, [], Bool, true, false, if◌then◌else◌, Option, Some, None, Result, Ok, Err, refl, sym, ap, subst, inl, inr, nat_lt, length, slice_index_or}
-use Rattle.std.specs.Prelude.{MatchResult}
+use Rattle.std.specs.Prelude.{◌≢◌, ◌⊎◌, MatchResult}
+use Rattle.qz_circ.specs.declared.report.Report.{Report}
 use Rattle.qz_circ.specs.declared.fault.QasmFault.{QasmFault}
 use Rattle.qz_circ.specs.declared.fault.RuleFault.{RuleFault}
 use Rattle.qz_circ.specs.Circuit.{Limits}
@@ -8,72 +9,125 @@ use Rattle.qz_circ.specs.Grammar.{program_of}
 use Rattle.qz_circ.specs.Programs.{ProgramParts}
 use Rattle.qz_circ.specs.RuleFiles.{RuleClasses}
 use Rattle.qz_circ.specs.Search.{PlanNumbers}
+use Rattle.qz_repgen.proofs.ReportLaws.{report_same}
 use Rattle.qz_top.specs.declared.words.Command.{Command}
 use Rattle.qz_top.specs.declared.words.Command.TheVariants.{Generate, Tidy, Optimise, Trial}
 use Rattle.qz_top.specs.declared.words.WordFault.{WordFault}
 use Rattle.qz_top.specs.declared.status.Status.{Status}
+use Rattle.qz_top.specs.declared.status.Status.TheVariants as status
 use Rattle.qz_top.specs.Answer.{Answer, Given, refused_with}
 use Rattle.qz_top.specs.FaultTexts.{status_text}
 use Rattle.qz_top.specs.Inputs.{most_input_bytes, program_answer, input_answer}
 use Rattle.qz_top.specs.Optimise.{optimised_text, RulesAnswer, FileAnswer, NamedAnswer}
-use Rattle.qz_top.specs.Run.{status_of_words, GenerationAnswers, CommandAnswers, WordsAnswer}
+use Rattle.qz_top.specs.Reports.{report_text, IsReportText, end_text}
+use Rattle.qz_top.specs.Run.{status_of_words, CommandAnswers, WordsAnswer, TellsDone, IsForErr}
 use Rattle.qz_top.specs.Words.{command_of}
 
 -- the text for the error stream is that of the status
-abbrev Tells : Answer → Type 0
-Tells answer = answer.err ≡ status_text answer.status
+abbrev TellsStatus : Answer → Type 0
+TellsStatus answer = answer.err ≡ status_text answer.status
 
 -- a refusal tells its status
-refusal_tells : (s : Status) (answer : Answer) → answer ≡ refused_with s → Tells answer
-refusal_tells s answer is = subst Tells (sym is) refl
+refusal_tells : (s : Status) (answer : Answer) → answer ≡ refused_with s → TellsStatus answer
+refusal_tells s answer is = subst TellsStatus (sym is) refl
 
 -- so does either of two answers
-either_tells : (b : Bool) (x y : Answer) → Tells x → Tells y → Tells (if b then x else y)
+either_tells : (b : Bool) (x y : Answer) → TellsStatus x → TellsStatus y → TellsStatus (if b then x else y)
 either_tells true x y first second = first
 either_tells false x y first second = second
 
 -- the answer to a program
-program_tells : (text : ProgramParts → List ℕ) (r : Result ProgramParts QasmFault) → Tells (program_answer text r)
+program_tells : (text : ProgramParts → List ℕ) (r : Result ProgramParts QasmFault) → TellsStatus (program_answer text r)
 program_tells text (Ok p) = refl
 program_tells text (Err e) = refl
 
 -- the answer to an input
-input_tells : (text : ProgramParts → List ℕ) (input : List ℕ) → Tells (input_answer text input)
+input_tells : (text : ProgramParts → List ℕ) (input : List ℕ) → TellsStatus (input_answer text input)
 unfolding input_answer
 input_tells text input = either_tells (nat_lt most_input_bytes (length input)) _ _ refl (program_tells text (program_of input))
 
 -- the answers to what a rule file says
-rules_tell : (plan : PlanNumbers) (given : Given) (said : Result RuleClasses RuleFault) (answer : Answer) → RulesAnswer plan given said answer → Tells answer
-rules_tell plan given (Ok rules) answer is = subst Tells (sym is) (input_tells (optimised_text rules plan) given.input)
+rules_tell : (plan : PlanNumbers) (given : Given) (said : Result RuleClasses RuleFault) (answer : Answer) → RulesAnswer plan given said answer → TellsStatus answer
+rules_tell plan given (Ok rules) answer is = subst TellsStatus (sym is) (input_tells (optimised_text rules plan) given.input)
 rules_tell plan given (Err e) answer is = refusal_tells _ answer is
 
 -- the answers to a rule file
-file_tells : (plan : PlanNumbers) (given : Given) (file : List ℕ) (answer : Answer) → FileAnswer plan given file answer → Tells answer
+file_tells : (plan : PlanNumbers) (given : Given) (file : List ℕ) (answer : Answer) → FileAnswer plan given file answer → TellsStatus answer
 file_tells plan given file answer (inl long) = refusal_tells _ answer long.1
 file_tells plan given file answer (inr short) = rules_tell plan given short.1.0 answer short.1.2
 
 -- the answers to a file with a name
-named_tells : (plan : PlanNumbers) (given : Given) (file : Option (List ℕ)) (answer : Answer) → NamedAnswer plan given file answer → Tells answer
+named_tells : (plan : PlanNumbers) (given : Given) (file : Option (List ℕ)) (answer : Answer) → NamedAnswer plan given file answer → TellsStatus answer
 named_tells plan given None answer is = refusal_tells _ answer is
 named_tells plan given (Some file) answer is = file_tells plan given file answer is
 
--- the answers of a generation
-generation_tells : (b : Limits) (report : Bool) (answer : Answer) → GenerationAnswers b report answer → Tells answer
-generation_tells b true answer is = refusal_tells _ answer is
-generation_tells b false answer is = is.err ∙ sym (ap status_text is.done)
+-- ---- what is told
 
--- the answers of a command
-command_tells : (words : List (List ℕ)) (command : Command) (given : Given) (answer : Answer) → CommandAnswers words command given answer → Tells answer
-command_tells words (Generate b workers seed report) given answer is = generation_tells b report answer is
-command_tells words (Trial seed qubits gates) given answer is = is.err ∙ sym (ap status_text is.done)
-command_tells words Tidy given answer is = subst Tells (sym is) (input_tells _ given.input)
-command_tells words (Optimise rules plan workers) given answer is = named_tells plan given (given.files (slice_index_or words rules [])) answer is
+-- a command is done, or not
+done_or_not : (s : Status) → (s ≡ status.Ok) ⊎ (s ≢ status.Ok)
+done_or_not status.Ok = inl refl
+done_or_not status.Memory = inr (λ e. cc)
+done_or_not status.Usage = inr (λ e. cc)
+done_or_not (status.Limit which) = inr (λ e. cc)
+done_or_not (status.Qasm fault) = inr (λ e. cc)
+done_or_not (status.RuleSyntax place) = inr (λ e. cc)
+done_or_not (status.Unsound class member) = inr (λ e. cc)
+done_or_not status.NoFile = inr (λ e. cc)
+done_or_not status.ReadFault = inr (λ e. cc)
+done_or_not status.WriteFault = inr (λ e. cc)
+done_or_not status.ShelfFault = inr (λ e. cc)
 
--- the answers to words, by what the words ask for
-asked_tells : (words : List (List ℕ)) (asked : Result Command WordFault) (given : Given) (answer : Answer) → MatchResult asked (λ command. CommandAnswers words command given answer) (λ refused. answer ≡ refused_with (status_of_words refused)) → Tells answer
-asked_tells words (Ok command) given answer is = command_tells words command given answer is
-asked_tells words (Err fault) given answer is = refusal_tells _ answer is
+-- a report has some text
+some_report_text : (report : Report) → report_text report ≢ []
+unfolding report_text
+some_report_text report e = cc
 
--- the text for the error stream of an answer with this status
-pub answer_tells : (words : List (List ℕ)) (s : Status) (given : Given) (answer : Answer) → WordsAnswer words given answer → answer.status ≡ s → answer.err ≡ status_text s
-answer_tells words s given answer is same = asked_tells words (command_of words) given answer is ∙ ap status_text same
+-- where there is no text, there is no report
+pub no_report : (s : Status) (report : Option Report) → end_text s report ≡ [] → report ≡ None
+no_report s None e = refl
+no_report s (Some report) e = absurd (some_report_text report e)
+
+-- limits and a seed have one text of the report
+one_report_text : (b : Limits) (seed : ℕ) (x y : List ℕ) → IsReportText b seed x → IsReportText b seed y → x ≡ y
+one_report_text b seed x y hx hy = hx.text_is ∙ ap report_text (report_same b seed hx.report hy.report hx.counts hy.counts) ∙ sym hy.text_is
+
+-- a command that has no text where it is done has the text of the status
+module _ (command : Command) (plain : (text : List ℕ) → text ≡ [] → TellsDone command text) where
+  pub status_for_err : (s : Status) → IsForErr command s (status_text s)
+  status_for_err s = record { done = λ e. plain (status_text s) (ap status_text e); not_done = λ _. refl }
+
+-- and no other
+for_err_is_status : (command : Command) (s : Status) (text : List ℕ) → (TellsDone command text → text ≡ []) → IsForErr command s text → text ≡ status_text s
+for_err_is_status command s text plain ends = elim (done_or_not s) [ inl e ↦ plain (ends.done e) ∙ sym (ap status_text e) | inr n ↦ ends.not_done n ]
+
+-- a generation that is done with a report has the report's text
+pub report_told : (command : Command) (b : Limits) (workers seed : ℕ) (text : List ℕ) → command ≡ Generate b workers seed true → TellsDone command text → IsReportText b seed text
+report_told command b workers seed text is told = subst (λ (c : Command). TellsDone c text) is told
+
+-- a command that is done without a report has no text
+pub plain_done : (command : Command) (text : List ℕ) → ((b : Limits) (workers seed : ℕ) → command ≢ Generate b workers seed true) → TellsDone command text → text ≡ []
+plain_done (Generate b workers seed true) text none is = absurd (none b workers seed refl)
+plain_done (Generate b workers seed false) text none is = is
+plain_done Tidy text none is = is
+plain_done (Optimise rules plan workers) text none is = is
+plain_done (Trial seed q g) text none is = is
+
+-- the answers of a command have the text for the error stream that the command has
+command_tells : (words : List (List ℕ)) (command : Command) (s : Status) (text : List ℕ) (given : Given) (answer : Answer) → IsForErr command s text → CommandAnswers words command given answer → answer.status ≡ s → answer.err ≡ text
+command_tells words (Generate b workers seed true) s text given answer ends is same = one_report_text b seed answer.err text is.err (ends.done (sym same ∙ is.done))
+command_tells words (Generate b workers seed false) s text given answer ends is same = is.err ∙ sym (ends.done (sym same ∙ is.done))
+command_tells words (Trial seed qubits gates) s text given answer ends is same = is.err ∙ sym (ends.done (sym same ∙ is.done))
+command_tells words Tidy s text given answer ends is same =
+    subst TellsStatus (sym is) (input_tells _ given.input) ∙ ap status_text same ∙ sym (for_err_is_status Tidy s text (λ h. h) ends)
+command_tells words (Optimise rules plan workers) s text given answer ends is same =
+    named_tells plan given (given.files (slice_index_or words rules [])) answer is ∙ ap status_text same ∙ sym (for_err_is_status (Optimise rules plan workers) s text (λ h. h) ends)
+
+-- the answers to words that ask for a command
+pub answer_tells : (words : List (List ℕ)) (command : Command) (s : Status) (text : List ℕ) → Ok command ≡ command_of words → IsForErr command s text → (given : Given) (answer : Answer) → WordsAnswer words given answer → answer.status ≡ s → answer.err ≡ text
+answer_tells words command s text e ends given answer is same =
+    command_tells words command s text given answer ends (subst (λ (r : Result Command WordFault). MatchResult r (λ k. CommandAnswers words k given answer) (λ refused. answer ≡ refused_with (status_of_words refused))) (sym e) is) same
+
+-- the answer to words that are refused
+pub refusal_told : (words : List (List ℕ)) (fault : WordFault) → Err fault ≡ command_of words → (given : Given) (answer : Answer) → WordsAnswer words given answer → answer.err ≡ status_text (status_of_words fault)
+refusal_told words fault e given answer is =
+    ap (λ (a : Answer). a.err) (subst (λ (r : Result Command WordFault). MatchResult r (λ k. CommandAnswers words k given answer) (λ refused. answer ≡ refused_with (status_of_words refused))) (sym e) is)

@@ -1,5 +1,5 @@
 -- What is made of the input of a command that needs a program.
-use Rattle.std.proofs.Common.{◌≡◌, ◌≢◌, ℕ, ◌+◌, ◌<◌, ◌≤◌, List, ◌++◌, length, Vec, Option, Some, None, Result, Ok, Err, cond, refl, subst, sym, ap, ◌∙◌, inl, inr, append-nil, length-append, arith}
+use Rattle.std.proofs.Common.{◌≡◌, ◌≢◌, ℕ, ◌+◌, ◌<◌, ◌≤◌, List, [], ◌++◌, length, Vec, Option, Some, None, Result, Ok, Err, cond, refl, subst, sym, ap, ◌∙◌, inl, inr, append-nil, length-append, arith}
 use Rattle.std.specs.Prelude.{◌⊎◌, IsTrue, MatchResult}
 use Rattle.std.specs.Io.KnownBytes.{prepend_known, IsAtEnd}
 use Rattle.std.proofs.lemmas.Bool.{le-ltb, lt-ltb}
@@ -155,6 +155,7 @@ module _ (Answers : Given → Answer → Type 0) (text : ProgramParts → List �
       record {
         given = record { input = read.bytes; files = files };
         told = (read.told, told);
+        err = [];
         is_answer = of_input.is read.bytes (done made) (sym answer);
         well = λ b h. ap (λ (a : Answer). a.status) (of_input.only read.bytes b h ∙ answer);
         answered = read.answered;

@@ -4,6 +4,7 @@ pub mod AnswerTexts
 pub mod AnswerLemmas
 pub mod InputLemmas
 pub mod TidyLemmas
+pub mod GenerateLemmas
 pub mod OptimisedLemmas
 pub mod OptimiseLemmas
 pub mod WordLemmas

@@ -1,22 +1,25 @@
 -- What the words of a command, and one of them that names a file, stand for.
-use Rattle.std.proofs.Common.{◌≡◌, ℕ, true, List, [], Option, Result, Ok, Err, refl, subst, sym, ◌∙◌, ap, inl, inr}
+use Rattle.std.proofs.Common.{◌≡◌, ℕ, List, [], Option, Result, Ok, Err, subst, sym, ◌∙◌, ap, inl, inr}
 use Rattle.std.specs.Prelude.{◌⊎◌, slice_index_or, MatchResult}
-use Rattle.qz_circ.specs.Circuit.{Limits}
 use Rattle.qz_circ.specs.Search.{PlanNumbers}
+use Rattle.std.specs.Io.KnownBytes.{append_known}
 use Rattle.qz_io.specs.Files.{Files}
-use Rattle.qz_io.specs.Transfers.{Input}
+use Rattle.qz_io.specs.Told.{HasPart}
 use Rattle.qz_top.specs.declared.status.Status.{Status}
-use Rattle.qz_top.specs.declared.status.Status.TheVariants as status
 use Rattle.qz_top.specs.declared.words.Command.{Command}
 use Rattle.qz_top.specs.declared.words.Command.TheVariants.{Optimise}
 use Rattle.qz_top.specs.declared.words.WordFault.{WordFault}
-use Rattle.qz_top.specs.Answer.{Answer, Storage, Outside, IsCalm, IsCarriedOut}
-use Rattle.qz_top.specs.Making.{EndsEarly, HasRules}
+use Rattle.qz_top.specs.Answer.{Storage, Outside, IsCarriedOut}
+use Rattle.qz_top.specs.Making.{HasRules}
 use Rattle.qz_top.specs.Optimise.{Optimises, TellsFile}
 use Rattle.qz_top.specs.Optimised.{WritesOptimised}
-use Rattle.qz_top.specs.Run.{GenerationAnswers, CommandAnswers, CommandNeedsProgram, NeedsProgram, IsOfProgram, AsksOfProgram}
+use Rattle.qz_top.specs.Run.{CommandAnswers, CommandNeedsProgram, NeedsProgram, IsOfProgram, AsksOfProgram, Tells}
 use Rattle.qz_top.specs.Words.{command_of}
-use Rattle.qz_top.proofs.AnswerLemmas.{some_given, refusal_ends}
+
+-- what is told of a text is told of one that is the same
+pub tells_same : (text told : List ℕ) → text ≡ told → {old new : Option (List ℕ)} {X Y : Type 0} → HasPart old told new → ((X → ⊥) → (Y → ⊥) → new ≡ append_known old told) → Tells text old new (X ⊎ Y)
+tells_same text told same {old} {new} {X} {Y} part whole =
+    subst (λ (t : List ℕ). Tells t old new (X ⊎ Y)) (sym same) (record { part = part; whole = λ calm. whole (λ x. calm (inl x)) (λ y. calm (inr y)) })
 
 -- words ask for one command
 pub same_command : (words : List (List ℕ)) (command other : Command) → Ok command ≡ command_of words → command_of words ≡ Ok other → command ≡ other
@@ -76,9 +79,3 @@ module _ (words : List (List ℕ)) (command : Command) (k : ℕ) (plan : PlanNum
   file_by_name j other more told file same tells =
       let number : k ≡ j = same_number k j plan other workers more (sym is ∙ same) in
       subst (λ (n : List ℕ). TellsFile told n file) (sym (named ∙ ap (word_at words) number)) tells
-
--- a generation with a report ends early, since reports aren't built
-pub unbuilt_carried : (b : Limits) (input : Input) (shelf : Storage) → input.faults_after ≡ input.faults_before → IsCalm shelf → EndsEarly (λ given. GenerationAnswers b true) status.Unbuilt input shelf
-unbuilt_carried b input shelf calm quiet =
-    let given = some_given input shelf in
-    refusal_ends (λ given. GenerationAnswers b true) status.Unbuilt input shelf given.0 given.1 tt refl (λ answer h. ap (λ (a : Answer). a.status) h) (λ _. calm) (λ _. quiet)

@@ -23,9 +23,13 @@ pub record Answer : Type 0 where
 abbrev pub refused_with : Status → Answer
 refused_with status = record { status = status; out = []; err = status_text status }
 
--- done, with this text for the output
+-- done, with these texts for the output and for the error stream
+abbrev pub done_with : List ℕ → List ℕ → Answer
+done_with text err = record { status = Ok; out = text; err = err }
+
+-- done, with this text for the output and none for the error stream
 abbrev pub done : List ℕ → Answer
-done text = record { status = Ok; out = text; err = [] }
+done text = done_with text []
 
 -- ---- what a call shows of the outside
 

@@ -1,20 +1,22 @@
 -- The command that generates the rules of some limits.
-use Rattle.std.specs.Prelude.{◌≡◌, ℕ, List, [], Option}
+use Rattle.std.specs.Prelude.{◌≡◌, ℕ, Bool, List, Option}
 use Rattle.std.specs.Io.KnownBytes.{append_known}
 use Rattle.qz_circ.specs.Circuit.{Limits}
 use Rattle.qz_circ.specs.Classes.{IsClassList, HasEquivalentMembers}
 use Rattle.qz_circ.specs.Joined.{JoinsEquivalent}
 use Rattle.qz_top.specs.declared.status.Status.TheVariants.{Ok}
 use Rattle.qz_top.specs.Answer.{Answer}
+use Rattle.qz_top.specs.Reports.{IsReportWhere}
 use Rattle.qz_circ.specs.RuleText.{rule_text}
 
--- an answer of a generation within lawful limits: done, with the text of the rule file of a class list of the limits
-pub record Generates (b : Limits) (answer : Answer) : Type 0 where
+-- an answer of a generation within lawful limits: done, with the text of the rule file of a class list of the limits for the
+-- output, and the text of the report for the error stream where it is wanted; the seed shows in the report alone
+pub record Generates (b : Limits) (seed : ℕ) (report : Bool) (answer : Answer) : Type 0 where
   pub classes : List (List ℕ)
   pub class_list : IsClassList b classes
   pub done : answer.status ≡ Ok
   pub out : answer.out ≡ rule_text b classes
-  pub err : answer.err ≡ []
+  pub err : IsReportWhere b seed report answer.err
 
 -- the text is that of the class list of the limits, whose members are equivalent, and which joins any two circuits within
 -- the limits that are equivalent

@@ -1,6 +1,7 @@
 pub mod Words
 pub mod Status
 pub mod FaultTexts
+pub mod Reports
 pub mod Pieces
 pub mod Answer
 pub mod Making

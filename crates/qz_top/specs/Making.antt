@@ -8,7 +8,7 @@ use Rattle.qz_io.specs.Files.{Files, TellsWhether, IsWholeFile}
 use Rattle.qz_io.specs.Transfers.{Input}
 use Rattle.qz_top.specs.declared.status.Status.{Status}
 use Rattle.qz_top.specs.declared.status.Status.TheVariants.{Ok as Done, Memory, ReadFault}
-use Rattle.qz_top.specs.Answer.{Answer, refused_with, done, Output, Storage, Given, IsTold, AreTold, IsCarriedOut}
+use Rattle.qz_top.specs.Answer.{Answer, refused_with, done_with, Output, Storage, Given, IsTold, AreTold, IsCarriedOut}
 use Rattle.qz_top.specs.Inputs.{most_input_bytes, input_answer}
 use Rattle.qz_top.specs.Optimise.{most_rule_bytes}
 use Rattle.qz_top.specs.Status.{IsRefusal, IsBeforeInput}
@@ -19,7 +19,8 @@ use Rattle.qz_top.specs.Status.{IsRefusal, IsBeforeInput}
 pub record IsToBeWritten (Answers : Given → Answer → Type 0) (text : List ℕ) (input : Input) (shelf : Storage) : Type 0 where
   pub given : Given
   pub told : AreTold input shelf given
-  pub is_answer : Answers given (done text)
+  pub err : List ℕ
+  pub is_answer : Answers given (done_with text err)
   pub well : (answer : Answer) → Answers given answer → answer.status ≡ Done
   pub answered : IsTrue input.answers_faults → input.faults_after ≡ input.faults_before
   pub shelf_answered : IsTrue shelf.answers_faults → shelf.faults_after ≡ shelf.faults_before

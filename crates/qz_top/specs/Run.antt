@@ -1,6 +1,7 @@
 -- The answers of the program to its words.
-use Rattle.std.specs.Prelude.{◌≡◌, ℕ, Bool, true, false, List, [], slice_index_or, MatchResult}
-use Rattle.qz_circ.specs.Circuit.{Limits}
+use Rattle.std.specs.Prelude.{◌≡◌, ◌≢◌, ℕ, List, [], Option, slice_index_or, MatchResult}
+use Rattle.std.specs.Io.KnownBytes.{append_known}
+use Rattle.qz_io.specs.Told.{HasPart}
 use Rattle.qz_top.specs.declared.words.Command.{Command}
 use Rattle.qz_top.specs.declared.words.Command.TheVariants.{Generate, Tidy, Optimise, Trial}
 use Rattle.qz_top.specs.declared.words.WordFault.{WordFault}
@@ -8,6 +9,8 @@ use Rattle.qz_top.specs.declared.words.WordFault.TheVariants as fault
 use Rattle.qz_top.specs.declared.status.Status.{Status}
 use Rattle.qz_top.specs.declared.status.Status.TheVariants as status
 use Rattle.qz_top.specs.Answer.{Answer, Given, Storage, refused_with}
+use Rattle.qz_top.specs.FaultTexts.{status_text}
+use Rattle.qz_top.specs.Reports.{IsReportWhere}
 use Rattle.qz_top.specs.Words.{command_of}
 use Rattle.qz_top.specs.Generate.{Generates}
 use Rattle.qz_top.specs.Tidy.{Tidies}
@@ -20,14 +23,9 @@ abbrev pub status_of_words : WordFault → Status
 status_of_words fault.Usage = status.Usage
 status_of_words (fault.Limit which) = status.Limit which
 
--- the answers of a generation, with a report or without: reports aren't built yet
-abbrev pub GenerationAnswers : Limits → Bool → Answer → Type 0
-GenerationAnswers bounds true answer = answer ≡ refused_with status.Unbuilt
-GenerationAnswers bounds false answer = Generates bounds answer
-
--- the answers of a command to what it is given, whatever the workers and the seed are; a number stands for one of the words
+-- the answers of a command to what it is given, whatever the workers are; a number stands for one of the words
 abbrev pub CommandAnswers : List (List ℕ) → Command → Given → Answer → Type 0
-CommandAnswers words (Generate bounds workers seed report) given answer = GenerationAnswers bounds report answer
+CommandAnswers words (Generate bounds workers seed report) given answer = Generates bounds seed report answer
 CommandAnswers words Tidy given answer = Tidies given answer
 CommandAnswers words (Optimise rules plan workers) given answer = Optimises (slice_index_or words rules []) plan given answer
 CommandAnswers words (Trial seed q g) given answer = Tries seed q g answer
@@ -57,3 +55,22 @@ IsOfProgram (Trial seed q g) = ⊥
 -- the words ask for such a command
 abbrev pub AsksOfProgram : List (List ℕ) → Type 0
 AsksOfProgram words = MatchResult (command_of words) IsOfProgram (λ refused. ⊥)
+
+-- ---- the error stream
+
+-- the text for the error stream of a command that is done: a generation's report where it is wanted, and else none
+abbrev pub TellsDone : Command → List ℕ → Type 0
+TellsDone (Generate bounds workers seed report) text = IsReportWhere bounds seed report text
+TellsDone Tidy text = text ≡ []
+TellsDone (Optimise rules plan workers) text = text ≡ []
+TellsDone (Trial seed q g) text = text ≡ []
+
+-- the text for the error stream of a command that ends with this status: that of what is done, or of the status
+pub record IsForErr (command : Command) (s : Status) (text : List ℕ) : Type 0 where
+  pub done : s ≡ status.Ok → TellsDone command text
+  pub not_done : s ≢ status.Ok → text ≡ status_text s
+
+-- what a stream tells has grown by a part of the text, and by the whole text unless one of the stream's counts rose
+pub record Tells (text : List ℕ) (old new : Option (List ℕ)) (rose : Type 0) : Type 0 where
+  pub part : HasPart old text new
+  pub whole : (rose → ⊥) → new ≡ append_known old text

@@ -3,7 +3,7 @@ use Rattle.std.specs.Prelude.{ℕ}
 use Rattle.qz_circ.specs.declared.fault.Which.{Which}
 use Rattle.qz_circ.specs.declared.fault.Which.TheVariants.{BoundsQubits, BoundsGates, BoundsParams, BoundsCircuits, Workers, PlanBatch, PlanCap, PlanRounds, PlanSlack, RuleBytes, TrialQubits, TrialGates}
 use Rattle.qz_top.specs.declared.status.Status.{Status}
-use Rattle.qz_top.specs.declared.status.Status.TheVariants.{Ok, Memory, Usage, Limit, Qasm, RuleSyntax, Unsound, NoFile, ReadFault, WriteFault, ShelfFault, Unbuilt}
+use Rattle.qz_top.specs.declared.status.Status.TheVariants.{Ok, Memory, Usage, Limit, Qasm, RuleSyntax, Unsound, NoFile, ReadFault, WriteFault, ShelfFault}
 
 -- the number that the program ends with
 abbrev pub status_number : Status → ℕ
@@ -18,9 +18,8 @@ status_number NoFile = 7
 status_number ReadFault = 8
 status_number WriteFault = 9
 status_number ShelfFault = 10
-status_number Unbuilt = 11
 
--- a status that refuses the words, the rule file or the input, or tells that what is asked for isn't built
+-- a status that refuses the words, the rule file or the input
 abbrev pub IsRefusal : Status → Type 0
 IsRefusal Ok = ⊥
 IsRefusal Memory = ⊥
@@ -33,7 +32,6 @@ IsRefusal NoFile = Unit {0}
 IsRefusal ReadFault = ⊥
 IsRefusal WriteFault = ⊥
 IsRefusal ShelfFault = ⊥
-IsRefusal Unbuilt = Unit {0}
 
 -- a status at which nothing is written: a refusal, or the input or the shelf failed
 abbrev pub WritesNothing : Status → Type 0
@@ -48,7 +46,6 @@ WritesNothing NoFile = Unit {0}
 WritesNothing ReadFault = Unit {0}
 WritesNothing WriteFault = ⊥
 WritesNothing ShelfFault = Unit {0}
-WritesNothing Unbuilt = Unit {0}
 
 -- a limit of words, of the bounds of a rule file or of its size
 abbrev pub IsLimitBeforeInput : Which → Type 0
@@ -79,4 +76,3 @@ IsBeforeInput NoFile = Unit {0}
 IsBeforeInput ReadFault = ⊥
 IsBeforeInput WriteFault = ⊥
 IsBeforeInput ShelfFault = Unit {0}
-IsBeforeInput Unbuilt = Unit {0}

@@ -1,5 +1,5 @@
 //! Texts that are made of pieces and written without memory, one piece after another.
-ghost use Rattle.std.specs.Prelude.{◌≡◌, ◌≢◌, ◌≤◌, IsTrue, OnOk, OnErr};
+ghost use Rattle.std.specs.Prelude.{◌≡◌, ◌≤◌, OnOk, OnErr};
 ghost use Rattle.std.specs.Fmt.{decimal};
 ghost use Rattle.std.specs.Io.KnownBytes.{append_known};
 ghost use Rattle.qz_io.specs.Counts.{Rose};
@@ -26,7 +26,6 @@ fn deliver_number<O: Sink>(number: u64, out: &mut O) -> Result<(), IoFault>
     ensures memory { result ≡ Err IoFault.Memory → Rose (O.wants out.old) (O.wants out.new) }
     ensures faults { O.faults out.old ≤ O.faults out.new }
     ensures wants { O.wants out.old ≤ O.wants out.new }
-    ensures answered { IsTrue O.answers_faults → result ≢ Err IoFault.Failed → O.faults out.new ≡ O.faults out.old }
 {
     let mut buffer = Buffer::new();
     deliver(buffer.format(number).as_bytes(), out)
@@ -40,7 +39,6 @@ fn deliver_piece<O: Sink>(piece: &Piece<'_>, out: &mut O) -> Result<(), IoFault>
     ensures memory { result ≡ Err IoFault.Memory → Rose (O.wants out.old) (O.wants out.new) }
     ensures faults { O.faults out.old ≤ O.faults out.new }
     ensures wants { O.wants out.old ≤ O.wants out.new }
-    ensures answered { IsTrue O.answers_faults → result ≢ Err IoFault.Failed → O.faults out.new ≡ O.faults out.old }
 {
     match piece {
         Piece::Text(text) => deliver(text.as_bytes(), out),
@@ -56,7 +54,6 @@ pub(crate) fn deliver_pieces<O: Sink>(pieces: &[Piece<'_>], out: &mut O) -> Resu
     ensures memory { result ≡ Err IoFault.Memory → Rose (O.wants out.old) (O.wants out.new) }
     ensures faults { O.faults out.old ≤ O.faults out.new }
     ensures wants { O.wants out.old ≤ O.wants out.new }
-    ensures answered { IsTrue O.answers_faults → result ≢ Err IoFault.Failed → O.faults out.new ≡ O.faults out.old }
 {
     for piece in pieces {
         match deliver_piece(piece, out) {

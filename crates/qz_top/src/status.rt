@@ -29,8 +29,6 @@ pub enum Status {
     WriteFault,
     /// Opening or reading the rule file failed.
     ShelfFault,
-    /// The words ask for a report, which isn't built yet.
-    Unbuilt,
 }
 
 impl Status {
@@ -52,7 +50,6 @@ impl Status {
             Status::ReadFault => 8,
             Status::WriteFault => 9,
             Status::ShelfFault => 10,
-            Status::Unbuilt => 11,
         }
     }
 }

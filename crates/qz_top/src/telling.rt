@@ -1,14 +1,15 @@
 //! The texts that go to the error stream.
-ghost use Rattle.std.specs.Prelude.{◌≡◌, ◌≢◌, ◌≤◌, IsTrue, OnOk, OnErr};
+ghost use Rattle.std.specs.Prelude.{◌≡◌, ◌≤◌, None, OnOk, OnErr};
 ghost use Rattle.std.specs.Io.KnownBytes.{append_known};
 ghost use Rattle.qz_io.specs.Counts.{Rose};
 ghost use Rattle.qz_io.specs.Told.{HasPart, HasProperPart};
+ghost use Rattle.qz_top.specs.Reports.{report_text, end_text};
 ghost use Rattle.qz_top.specs.FaultTexts.{which_name, lex_kind, angle_kind, fault_kind, lex_place, angle_place, fault_place, status_text};
 
 use crate::pieces::Piece::{Number, Text};
 use crate::pieces::deliver_pieces;
 use crate::status::Status;
-use qz_circ::{AngleFault, LexFault, QasmFault, Which};
+use qz_circ::{AngleFault, LexFault, QasmFault, Report, Which};
 use qz_io::{IoFault, Sink};
 
 // The name of a limit.
@@ -136,7 +137,6 @@ fn deliver_status<E: Sink>(status: Status, err: &mut E) -> Result<(), IoFault>
     ensures memory { result ≡ Err IoFault.Memory → Rose (E.wants err.old) (E.wants err.new) }
     ensures faults { E.faults err.old ≤ E.faults err.new }
     ensures wants { E.wants err.old ≤ E.wants err.new }
-    ensures answered { IsTrue E.answers_faults → result ≢ Err IoFault.Failed → E.faults err.new ≡ E.faults err.old }
     ensures untouched { status ≡ Status.Ok → err.new ≡ err.old }
 {
     let end = Text("\n");
@@ -166,8 +166,34 @@ fn deliver_status<E: Sink>(status: Status, err: &mut E) -> Result<(), IoFault>
         Status::ReadFault => deliver_pieces(&[Text("read fault"), end], err),
         Status::WriteFault => deliver_pieces(&[Text("write fault"), end], err),
         Status::ShelfFault => deliver_pieces(&[Text("rule file fault"), end], err),
-        Status::Unbuilt => deliver_pieces(&[Text("not built"), end], err),
     }
+}
+
+// Writes the whole text of a report. After an error a prefix of it is written, which is not the whole text.
+fn deliver_report<E: Sink>(report: Report, err: &mut E) -> Result<(), IoFault>
+    ensures whole { OnOk result (E.written err.new ≡ append_known (E.written err.old) (report_text report)) }
+    ensures part { OnErr result (HasProperPart (E.written err.old) (report_text report) (E.written err.new)) }
+    ensures failed { result ≡ Err IoFault.Failed → Rose (E.faults err.old) (E.faults err.new) }
+    ensures memory { result ≡ Err IoFault.Memory → Rose (E.wants err.old) (E.wants err.new) }
+    ensures faults { E.faults err.old ≤ E.faults err.new }
+    ensures wants { E.wants err.old ≤ E.wants err.new }
+{
+    deliver_pieces(
+        &[
+            Text("extended "),
+            Number(report.extended),
+            Text("\nkept "),
+            Number(report.kept),
+            Text("\nclasses "),
+            Number(report.classes),
+            Text("\nmembers "),
+            Number(report.members),
+            Text("\nprints "),
+            Number(report.prints),
+            Text("\n"),
+        ],
+        err,
+    )
 }
 
 /// Writes the text of a status, and gives up where the sink answers an error. It answers nothing, so that no error changes a status.
@@ -179,4 +205,28 @@ pub fn tell<E: Sink>(status: Status, err: &mut E)
     ensures untouched { status ≡ Status.Ok → err.new ≡ err.old }
 {
     let _ = deliver_status(status, err);
+}
+
+// Writes the text of a report, and gives up where the sink answers an error.
+fn tell_report<E: Sink>(report: Report, err: &mut E)
+    ensures part { HasPart (E.written err.old) (report_text report) (E.written err.new) }
+    ensures whole { (Rose (E.faults err.old) (E.faults err.new) → ⊥) → (Rose (E.wants err.old) (E.wants err.new) → ⊥) → E.written err.new ≡ append_known (E.written err.old) (report_text report) }
+    ensures faults { E.faults err.old ≤ E.faults err.new }
+    ensures wants { E.wants err.old ≤ E.wants err.new }
+{
+    let _ = deliver_report(report, err);
+}
+
+// Tells the report where there is one, and else the status.
+pub(crate) fn tell_end<E: Sink>(status: Status, report: Option<Report>, err: &mut E)
+    ensures part { HasPart (E.written err.old) (end_text status report) (E.written err.new) }
+    ensures whole { (Rose (E.faults err.old) (E.faults err.new) → ⊥) → (Rose (E.wants err.old) (E.wants err.new) → ⊥) → E.written err.new ≡ append_known (E.written err.old) (end_text status report) }
+    ensures faults { E.faults err.old ≤ E.faults err.new }
+    ensures wants { E.wants err.old ≤ E.wants err.new }
+    ensures untouched { status ≡ Status.Ok → report ≡ None → err.new ≡ err.old }
+{
+    match report {
+        Some(report) => tell_report(report, err),
+        None => tell(status, err),
+    }
 }

@@ -1,4 +1,4 @@
-use Rattle.std.proofs.Common.{◌≡◌, ◌≤◌, take, IsTrue}
+use Rattle.std.proofs.Common.{◌≡◌, ◌≤◌, take}
 use Rattle.std.specs.Io.KnownBytes.{append_known}
 use Rattle.qz_top.specs.Pieces.{pieces_text}
 use Rattle.qz_top.proofs.pieces.deliver_pieces.Given as goal
@@ -8,5 +8,4 @@ invariant-loop-piece g l = record {
   told : g.O.Sink.written l.out ≡ append_known (g.O.Sink.written l.initial.out) (pieces_text (take l.piece-index l.pieces));
   faults : g.O.Sink.faults l.initial.out ≤ g.O.Sink.faults l.out;
   wants : g.O.Sink.wants l.initial.out ≤ g.O.Sink.wants l.out;
-  answered : IsTrue g.O.Sink.answers_faults → g.O.Sink.faults l.out ≡ g.O.Sink.faults l.initial.out;
 }

@@ -1,20 +1,30 @@
-use Rattle.std.proofs.Common.{subst, map, string_bytes, refl, inl, inr}
+use Rattle.std.proofs.Common.{subst, map, string_bytes, refl, ap, inl, inr}
 use Rattle.qz_io.specs.Transfers.{input_of}
 use Rattle.qz_top.specs.Answer.{storage_of}
+use Rattle.qz_top.specs.declared.words.Command.TheVariants.{Tidy, Optimise, Trial}
+use Rattle.qz_top.specs.Reports.{end_text}
 use Rattle.qz_top.specs.Words.{IsLawfulCommand}
+use Rattle.qz_top.proofs.AnswerTexts.{status_for_err}
 use Rattle.qz_top.proofs.AnswerLemmas.{still, still_not_rose}
-use Rattle.qz_top.proofs.RunLemmas.{unbuilt_carried, carried_by_name, optimised_by_name, needs_by_name, needs_by_name_or, file_by_name}
+use Rattle.qz_top.proofs.RunLemmas.{carried_by_name, optimised_by_name, needs_by_name, needs_by_name_or, file_by_name}
 use Rattle.qz_top.proofs.run.carry_out.Goals as goal
 
-pub returns-then-report-clause-carried_out : goal.returns-then-report-clause-carried_out
-returns-then-report-clause-carried_out g c =
-    rw (c.in-Generate.is, c.if-report.true) ((unbuilt_carried c.in-Generate.bounds (input_of g.I.Source.left g.I.Source.faults g.I.Source.answers_faults c.args.input.now c.args.input.now)
-    (storage_of g.F.Shelf.files g.F.Shelf.faults g.F.Shelf.answers_faults c.args.shelf.now c.args.shelf.now) refl refl).carried_out _ refl refl)
-
-pub returns-else-report-clause-carried_out : goal.returns-else-report-clause-carried_out
-returns-else-report-clause-carried_out g c =
-    rw (c.in-Generate.is, c.if-report.false) (c.generate.ensures.carried_out (input_of g.I.Source.left g.I.Source.faults g.I.Source.answers_faults c.args.input.now c.args.input.now)
+pub returns-in-Generate-clause-carried_out : goal.returns-in-Generate-clause-carried_out
+returns-in-Generate-clause-carried_out g c =
+    rw c.in-Generate.is (c.generate.ensures.carried_out (input_of g.I.Source.left g.I.Source.faults g.I.Source.answers_faults c.args.input.now c.args.input.now)
     (storage_of g.F.Shelf.files g.F.Shelf.faults g.F.Shelf.answers_faults c.args.shelf.now c.args.shelf.now) refl refl)
+
+pub returns-in-Generate-clause-told : goal.returns-in-Generate-clause-told
+returns-in-Generate-clause-told g c = rw c.in-Generate.is (record { done = c.generate.ensures.report; not_done = λ n. ap (end_text c.generate.result.0) (c.generate.ensures.no_report n) })
+
+pub returns-in-Tidy-clause-told : goal.returns-in-Tidy-clause-told
+returns-in-Tidy-clause-told g c = rw c.in-Tidy.is (status_for_err Tidy (λ text e. e) c.tidy.result)
+
+pub returns-in-Optimise-clause-told : goal.returns-in-Optimise-clause-told
+returns-in-Optimise-clause-told g c = rw c.in-Optimise.is (status_for_err (Optimise _ _ _) (λ text e. e) c.optimise-status.result)
+
+pub returns-in-Trial-clause-told : goal.returns-in-Trial-clause-told
+returns-in-Trial-clause-told g c = rw c.in-Trial.is (status_for_err (Trial _ _ _) (λ text e. e) c.trial.result)
 
 pub returns-in-Tidy-clause-carried_out : goal.returns-in-Tidy-clause-carried_out
 returns-in-Tidy-clause-carried_out g c =
@@ -52,20 +62,20 @@ returns-in-Trial-clause-unread g c = inl refl
 -- the file is the one that the word names
 pub returns-in-Optimise-clause-carried_out : goal.returns-in-Optimise-clause-carried_out
 returns-in-Optimise-clause-carried_out g c =
-    carried_by_name (map string_bytes c.args.words.now) c.args.command c.in-Optimise.rules c.in-Optimise.plan _ c.word.result.now c.in-Optimise.is c.word.ensures c.optimise.result _ c.optimise.ensures.carried_out
+    carried_by_name (map string_bytes c.args.words.now) c.args.command c.in-Optimise.rules c.in-Optimise.plan _ c.word.result.now c.in-Optimise.is c.word.ensures c.optimise-status.result _ c.optimise-status.ensures.carried_out
 
 pub returns-in-Optimise-clause-optimised : goal.returns-in-Optimise-clause-optimised
 returns-in-Optimise-clause-optimised g c = λ k plan workers is done.
-    optimised_by_name (map string_bytes c.args.words.now) c.args.command c.in-Optimise.rules c.in-Optimise.plan _ c.word.result.now c.in-Optimise.is c.word.ensures k plan workers _ is (c.optimise.ensures.optimised done)
+    optimised_by_name (map string_bytes c.args.words.now) c.args.command c.in-Optimise.rules c.in-Optimise.plan _ c.word.result.now c.in-Optimise.is c.word.ensures k plan workers _ is (c.optimise-status.ensures.optimised done)
 
 pub returns-in-Optimise-clause-unread : goal.returns-in-Optimise-clause-unread
 returns-in-Optimise-clause-unread g c =
-    needs_by_name_or (map string_bytes c.args.words.now) c.args.command c.in-Optimise.rules c.in-Optimise.plan _ c.word.result.now c.in-Optimise.is c.word.ensures _ _ c.optimise.ensures.unread
+    needs_by_name_or (map string_bytes c.args.words.now) c.args.command c.in-Optimise.rules c.in-Optimise.plan _ c.word.result.now c.in-Optimise.is c.word.ensures _ _ c.optimise-status.ensures.unread
 
 pub returns-in-Optimise-clause-read_fault : goal.returns-in-Optimise-clause-read_fault
 returns-in-Optimise-clause-read_fault g c = λ e.
-    needs_by_name (map string_bytes c.args.words.now) c.args.command c.in-Optimise.rules c.in-Optimise.plan _ c.word.result.now c.in-Optimise.is c.word.ensures _ (c.optimise.ensures.read_fault e)
+    needs_by_name (map string_bytes c.args.words.now) c.args.command c.in-Optimise.rules c.in-Optimise.plan _ c.word.result.now c.in-Optimise.is c.word.ensures _ (c.optimise-status.ensures.read_fault e)
 
 pub returns-in-Optimise-clause-file_taken : goal.returns-in-Optimise-clause-file_taken
 returns-in-Optimise-clause-file_taken g c = λ k plan workers file is tells.
-    c.optimise.ensures.file_taken file (file_by_name (map string_bytes c.args.words.now) c.args.command c.in-Optimise.rules c.in-Optimise.plan _ c.word.result.now c.in-Optimise.is c.word.ensures k plan workers _ file is tells)
+    c.optimise-status.ensures.file_taken file (file_by_name (map string_bytes c.args.words.now) c.args.command c.in-Optimise.rules c.in-Optimise.plan _ c.word.result.now c.in-Optimise.is c.word.ensures k plan workers _ file is tells)

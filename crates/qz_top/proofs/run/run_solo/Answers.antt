@@ -1,7 +1,8 @@
-use Rattle.std.proofs.Common.{map, string_bytes, refl}
+use Rattle.std.proofs.Common.{map, string_bytes, refl, sym, ap, ◌∙◌, Ok}
+use Rattle.qz_top.specs.FaultTexts.{status_text}
 use Rattle.qz_top.proofs.AnswerLemmas.{words_carried, words_refused}
-use Rattle.qz_top.proofs.AnswerTexts.{answer_tells}
-use Rattle.qz_top.proofs.RunLemmas.{same_command, words_need, words_need_or, words_ask, refused_ask}
+use Rattle.qz_top.proofs.AnswerTexts.{answer_tells, refusal_told, plain_done, no_report, report_told}
+use Rattle.qz_top.proofs.RunLemmas.{tells_same, same_command, words_need, words_need_or, words_ask, refused_ask}
 use Rattle.qz_top.proofs.run.run_solo.Goals as goal
 
 pub returns-in-Ok-clause-carried_out : goal.returns-in-Ok-clause-carried_out
@@ -19,11 +20,31 @@ returns-in-Ok-clause-unread g c = words_need_or (map string_bytes c.args.words.n
 pub returns-in-Ok-clause-read_fault : goal.returns-in-Ok-clause-read_fault
 returns-in-Ok-clause-read_fault g c = λ e. words_need (map string_bytes c.args.words.now) c.in-Ok.command _ c.in-Ok.ensures.command (c.carry_out-status.ensures.read_fault e)
 
+-- the text for the error stream of the command
 pub returns-in-Ok-clause-err_answer : goal.returns-in-Ok-clause-err_answer
-returns-in-Ok-clause-err_answer g c = answer_tells (map string_bytes c.args.words.now) c.carry_out-status.result
+returns-in-Ok-clause-err_answer g c = λ given answer is same.
+    let own = answer_tells (map string_bytes c.args.words.now) c.in-Ok.command _ _ c.in-Ok.ensures.command c.carry_out-status.ensures.told given answer is same in
+    tells_same _ _ own c.tell_end.ensures.part c.tell_end.ensures.whole
+
+pub returns-in-Ok-clause-err_status : goal.returns-in-Ok-clause-err_status
+returns-in-Ok-clause-err_status g c = λ n. tells_same _ _ (sym (c.carry_out-status.ensures.told.not_done n)) c.tell_end.ensures.part c.tell_end.ensures.whole
+
+pub returns-in-Ok-clause-report : goal.returns-in-Ok-clause-report
+returns-in-Ok-clause-report g c = λ b workers seed is done.
+    let command = same_command (map string_bytes c.args.words.now) c.in-Ok.command _ c.in-Ok.ensures.command is in
+    (_, report_told c.in-Ok.command b workers seed _ command (c.carry_out-status.ensures.told.done done), tells_same _ _ refl c.tell_end.ensures.part c.tell_end.ensures.whole)
+
+pub returns-in-Ok-clause-err_done : goal.returns-in-Ok-clause-err_done
+returns-in-Ok-clause-err_done g c = λ done none.
+    let plain = plain_done c.in-Ok.command _ (λ b workers seed is. none b workers seed (sym c.in-Ok.ensures.command ∙ ap Ok is)) (c.carry_out-status.ensures.told.done done) in
+    c.tell_end.ensures.untouched done (no_report _ _ plain)
 
 pub returns-in-Err-clause-err_answer : goal.returns-in-Err-clause-err_answer
-returns-in-Err-clause-err_answer g c = answer_tells (map string_bytes c.args.words.now) c.status_of_words-status.result
+returns-in-Err-clause-err_answer g c = λ given answer is same.
+    tells_same _ _ (refusal_told (map string_bytes c.args.words.now) c.in-Err.fault c.in-Err.ensures.command given answer is ∙ sym (ap status_text c.status_of_words-status.ensures)) c.tell.ensures.part c.tell.ensures.whole
+
+pub returns-in-Err-clause-err_status : goal.returns-in-Err-clause-err_status
+returns-in-Err-clause-err_status g c = λ n. tells_same _ _ refl c.tell.ensures.part c.tell.ensures.whole
 
 pub returns-in-Err-clause-carried_out : goal.returns-in-Err-clause-carried_out
 returns-in-Err-clause-carried_out g c =

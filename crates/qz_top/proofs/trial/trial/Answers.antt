@@ -1,4 +1,4 @@
-use Rattle.std.proofs.Common.{◌∙◌, List, ℕ, refl, subst, ap}
+use Rattle.std.proofs.Common.{◌∙◌, List, [], ℕ, refl, subst, ap}
 use Rattle.std.specs.Io.KnownBytes.{append_known}
 use Rattle.qz_io.specs.Told.{HasProperPart}
 use Rattle.qz_top.specs.Trial.{Tries}
@@ -12,6 +12,7 @@ returns-clause-carried_out g c = λ input shelf calm quiet.
     (record {
       given = given.0;
       told = given.1;
+      err = [];
       is_answer = record { done = refl; out = c.in-Ok.ensures; err = refl };
       well = λ a h. h.done;
       answered = λ _. calm;
