@@ -156,18 +156,16 @@ pub(super) fn refuses(rt: &impl Abort, alloc: Global, text: &str, status: Status
     assert!(rt; done, "at {text}");
 }
 
-// A report isn't built yet.
+// A report changes nothing of the rules, whatever the seed is.
 #[test]
-fn builds_no_report(rt: HostRuntime) {
+fn writes_the_same_rules_with_a_report(rt: HostRuntime) {
     let alloc = rt.alloc();
-    let unbuilt = Status::Unbuilt;
-    refuses(&rt, alloc, "generate 2 1 0 --report", unbuilt);
-    let last = "generate 4 3 2 --report --workers 16";
-    refuses(&rt, alloc, last, unbuilt);
+    writes(&rt, alloc, "generate 2 1 0 --report", two_gates());
+    let text = "generate 2 1 0 --report --seed 1 --workers 2";
+    writes(&rt, alloc, text, two_gates());
     let qubits = Status::Limit(Which::BoundsQubits);
     refuses(&rt, alloc, "generate 2 4 0 --report", qubits);
     refuses(&rt, alloc, "generate 2 1 0 --report 1", Status::Usage);
-    assert_eq!(rt; number_of(unbuilt), 11);
 }
 
 fn read(words: &[String]) -> Result<Command, WordFault> {

@@ -1,5 +1,6 @@
-//! The texts of statuses, and that nothing on the error stream changes a status.
+//! The texts of statuses and of reports, and that nothing on the error stream changes a status.
 
+use crate::commands::words_of;
 use qz_circ::{AngleFault, LexFault, QasmFault, Which};
 use qz_io::{MemShelf, MemSink, MemSource, Named};
 use qz_top::{Status, run_solo, tell};
@@ -288,15 +289,6 @@ fn words_alone(words: &str) -> Case<'_> {
     }
 }
 
-// The words of this text, which are parted by single spaces.
-fn words_of(alloc: Global, text: &str) -> Result<Vec<String>, AllocError> {
-    let mut words = Vec::new(alloc);
-    for word in text.split(' ') {
-        words.push(String::from_str(alloc, word)?)?;
-    }
-    Ok(words)
-}
-
 // A shelf with the rule file r.
 fn shelf_with(alloc: Global, rules: &str, stops: &[u64]) -> Result<MemShelf, AllocError> {
     let file = Vec::from_slice(alloc, rules.as_bytes())?;
@@ -427,7 +419,24 @@ fn ends_alike_at_faults_of_the_outside(rt: HostRuntime) {
     ends(&rt, alloc, out, Status::WriteFault, "write fault\n");
 }
 
-// A run that is done tells nothing, so that an error stream that would fail counts no fault.
+// No report is told where its rules could not be written.
+#[test]
+fn ends_alike_with_a_report(rt: HostRuntime) {
+    let alloc = rt.alloc();
+    let text = "extended 90\nkept 91\nclasses 17\nmembers 77\nprints 31\n";
+    let case = words_alone("generate 2 1 0 --report");
+    ends(&rt, alloc, case, Status::Ok, text);
+    let failing = Case {
+        out_stops: &[100],
+        ..case
+    };
+    ends(&rt, alloc, failing, Status::WriteFault, "write fault\n");
+    let text = "extended 132\nkept 133\nclasses 33\nmembers 111\nprints 55\n";
+    let case = words_alone("generate 2 1 1 --seed 1 --report");
+    ends(&rt, alloc, case, Status::Ok, text);
+}
+
+// A run that is done without a report tells nothing, so that an error stream that would fail counts no fault.
 #[test]
 fn tells_nothing_where_it_is_done(rt: HostRuntime) -> Result<(), Fail> {
     let alloc = rt.alloc();
