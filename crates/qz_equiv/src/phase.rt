@@ -5,11 +5,11 @@ ghost use Rattle.qz_ring.specs.Terms.{count, weight_of, largest_reach};
 ghost use Rattle.qz_equiv.specs.Phases.{IsMultiple, IsMultipleColumn, IsMultipleMatrix, HasPhase, IsPivot};
 
 use crate::roots::times_roots;
-use crate::zeros::{are_alike_matrices, pivot, rows_of};
+use crate::zeros::{are_alike_matrices, are_zero, pivot, rows_of};
 use qz_matrix::Matrix;
 use qz_ring::{Elem, Exponent, Memory};
 
-// Whether x is y times the monomial, and times √2 as often as the number says.
+// Whether x is y times the monomial, and times √2 as often as the number says. Most entries are zero, which takes no product.
 fn same_entry(x: &Elem, y: &Elem, roots: u64, by: Exponent) -> Result<bool, Memory>
     requires few { roots ≤ 100 }
     requires weight { weight_of y.now ≤ 2 ^ (100 - roots) }
@@ -17,6 +17,9 @@ fn same_entry(x: &Elem, y: &Elem, roots: u64, by: Exponent) -> Result<bool, Memo
     requires reach { reach_of by ≤ 200 }
     ensures { IfOk result (λ same. IsTrue same ↔ IsMultiple roots by x.now y.now) }
 {
+    if are_zero(x, y) {
+        return Ok(true);
+    }
     let mut product = times_roots(y, roots)?;
     product.shift(by);
     Ok(x.same(&product))

@@ -21,6 +21,14 @@ fn are_alike(x: &Elem, y: &Elem) -> bool
     x.is_zero() == y.is_zero()
 }
 
+// Whether both sums are zero.
+pub(crate) fn are_zero(x: &Elem, y: &Elem) -> bool
+    ensures first { IsTrue result → CountsNothing x.now }
+    ensures second { IsTrue result → CountsNothing y.now }
+{
+    x.is_zero() && y.is_zero()
+}
+
 // Whether two columns have zeros in the same rows.
 fn are_alike_columns(x: &Matrix, y: &Matrix, j: u64) -> bool
     requires qubits { y.now.q ≡ x.now.q }
