@@ -1,5 +1,5 @@
 -- Where ranks are after any interleaving.
-use Rattle.std.proofs.Common.{◌≡◌, ◌≢◌, ◌<◌, ◌≤◌, ℕ, zero, suc, ◌+◌, ◌⊎◌, inl, inr, Bool, true, false, Option, None, Some, List, [], ◌∷◌, ◌++◌, length, take, get_or, append_assoc, append-nil, refl, sym, ap, subst, ◌∙◌, arith}
+use Rattle.std.proofs.Common.{◌≡◌, ◌<◌, ◌≤◌, ℕ, zero, suc, ◌+◌, ◌⊎◌, inl, inr, true, false, Option, None, List, [], ◌∷◌, ◌++◌, length, take, get_or, append_assoc, append-nil, refl, sym, ap, subst, ◌∙◌, arith}
 use Rattle.std.specs.Prelude.{slice_get}
 use Rattle.std.specs.List.Sorted.{IsStrictlyIncreasing}
 use Rattle.std.specs.Option.{option_to_list}
@@ -12,7 +12,7 @@ use Rattle.qz_core.specs.RoundMachine.{times, times_in_all, RoundState, opened, 
 use Rattle.qz_core.specs.RoundMachine.RoundEvent.{Claim, Put}
 use Rattle.qz_core.proofs.Counts.{one_holds, times_at}
 use Rattle.qz_core.proofs.Rising.{absent, found, once}
-use Rattle.qz_core.proofs.Rounds.{claimed_more, claimed_none, put_more, put_none, with_claimed, claimed_keeps, put_keeps_round, opened_is_round, after_is_round}
+use Rattle.qz_core.proofs.Rounds.{claimed_more, claimed_none, put_more, put_none, with_claimed, claimed_keeps, put_keeps, opened_is_round, after_is_round}
 
 -- what holds of each round holds always
 pub always : (P : RoundState → Type 0) → ((n : ℕ) (m : RoundState) → IsRound n m → P m) → HoldsAlways P
@@ -25,12 +25,12 @@ claimed_input m w = by (cases_lt m.next (length m.list))
     by (inl more) = (ap (λ q. q.list) (claimed_more m w more), ap (λ q. q.homes) (claimed_more m w more))
     by (inr none) = (ap (λ q. q.list) (claimed_none m w none), ap (λ q. q.homes) (claimed_none m w none))
 
-put_input : (m : RoundState) (w r : ℕ) → ((put m w r).list ≡ m.list) × ((put m w r).homes ≡ m.homes) × ((put m w r).next ≡ m.next)
+put_input : (m : RoundState) (w r : ℕ) → ((put m w r).list ≡ m.list) × ((put m w r).homes ≡ m.homes)
 put_input m w r = by (cases_Bool (is_pending m w r))
   where
-    by : (is_pending m w r ≡ true) ⊎ (is_pending m w r ≡ false) → ((put m w r).list ≡ m.list) × ((put m w r).homes ≡ m.homes) × ((put m w r).next ≡ m.next)
-    by (inl there) = let e = put_more m w r there in (ap (λ q. q.list) e, ap (λ q. q.homes) e, ap (λ q. q.next) e)
-    by (inr missing) = let e = put_none m w r missing in (ap (λ q. q.list) e, ap (λ q. q.homes) e, ap (λ q. q.next) e)
+    by : (is_pending m w r ≡ true) ⊎ (is_pending m w r ≡ false) → ((put m w r).list ≡ m.list) × ((put m w r).homes ≡ m.homes)
+    by (inl there) = let e = put_more m w r there in (ap (λ q. q.list) e, ap (λ q. q.homes) e)
+    by (inr missing) = let e = put_none m w r missing in (ap (λ q. q.list) e, ap (λ q. q.homes) e)
 
 -- no event changes the ranks or their homes
 pub input_stays : (events : List RoundEvent) (m : RoundState) → ((after_events events m).list ≡ m.list) × ((after_events events m).homes ≡ m.homes)
@@ -83,7 +83,7 @@ put_goes w r events m rest = by (cases_Bool (is_pending m w r))
 claims_from : (n : ℕ) (events : List RoundEvent) (m : RoundState) → AreOfWorkers n events → IsRound n m → Goes events m
 claims_from n [] m of h = append-nil (take m.next m.list)
 claims_from n (Claim w ∷ events) m of h = claim_goes w events m h.bound (claims_from n events (claimed m w) of.1 (claimed_keeps n m w of.0 h))
-claims_from n (Put w r ∷ events) m of h = put_goes w r events m (claims_from n events (put m w r) of.1 (put_keeps_round n m w r of.0 h))
+claims_from n (Put w r ∷ events) m of h = put_goes w r events m (claims_from n events (put m w r) of.1 (put_keeps n m w r of.0 h))
 
 -- the claims give the first ranks in order
 pub claims_are : (n : ℕ) (list homes : List ℕ) (events : List RoundEvent) → IsRoundOf list homes → AreOfWorkers n events → claims_give events (opened n list homes) ≡ take (after_events events (opened n list homes)).next list
