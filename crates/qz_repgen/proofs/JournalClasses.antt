@@ -27,7 +27,8 @@ use Rattle.qz_finger.proofs.Law.{one_fingerprint}
 use Rattle.qz_shard.specs.Journals.{AreEquivalentRanks, AreClassesBy, AreClassesOf}
 use Rattle.qz_shard.proofs.Partitions as partition
 use Rattle.qz_shard.proofs.Zipped.{zip_at, zip_length}
-use Rattle.qz_repgen.specs.Journals.{IsKeptRank, home_of, AreAtHome, HoldKept, several, AreTogether}
+use Rattle.qz_shard.specs.Shards.{home_of}
+use Rattle.qz_repgen.specs.Journals.{IsKeptRank, AreAtHome, HoldKept, several, AreTogether}
 use Rattle.qz_repgen.specs.Rounds.{IsKeptUpTo}
 use Rattle.qz_repgen.proofs.LowerLaws.{ranks_are_order}
 use Rattle.qz_repgen.proofs.RankLaws.{representative_below, representative_at, representative_from, is_no_representative, member_below, member_kept, member_equivalent, member_from}

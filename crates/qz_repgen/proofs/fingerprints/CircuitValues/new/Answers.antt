@@ -4,7 +4,7 @@ use Rattle.qz_circ.specs.Circuit.{Circuit}
 use Rattle.qz_circ.proofs.CircuitPlaces.{circuit_at-zero}
 use Rattle.qz_finger.specs.Stands.{StandsFor}
 use Rattle.qz_repgen.proofs.RoundSteps.{some_circuit}
-use Rattle.qz_repgen.proofs.front.Start.new.Goals as goal
+use Rattle.qz_repgen.proofs.fingerprints.CircuitValues.new.Goals as goal
 
 pub returns : goal.returns
 returns c =
