@@ -15,12 +15,11 @@ use Rattle.std.proofs.lemmas.List.Sums.{sum_by-le}
 use Rattle.qz_circ.specs.Bounds.{IsLawful, gate_count}
 use Rattle.qz_circ.specs.Circuit.{Limits}
 use Rattle.qz_circ.specs.Classes.{ListsExactly, IsMemberRank, IsClassList}
-use Rattle.qz_circ.specs.Order.{all_circuits, circuit_at}
+use Rattle.qz_circ.specs.Order.{all_circuits}
 use Rattle.qz_circ.proofs.BoundsLemmas.{in_range, gate_count_is}
 use Rattle.qz_circ.proofs.CircuitPlaces.{Contains-map}
 use Rattle.qz_circ.proofs.ClassLaws.{Rises, rises_tail, first_below}
 use Rattle.qz_circ.proofs.RankLemmas.{all_few}
-use Rattle.qz_finger.specs.Fingerprint.{fingerprint}
 use Rattle.qz_shard.specs.Shards.{ShardParts, different_prints, print_at, home_of}
 use Rattle.qz_shard.proofs.Partitions.{rising_short}
 use Rattle.qz_shard.proofs.Zipped.{contains_or_not, zip_length, zip_at}

@@ -28,7 +28,7 @@ use Rattle.qz_repgen.proofs.RankLaws.{representative_below}
 use Rattle.qz_repgen.proofs.RisingRuns.{rises-append, increasing_from_rises, taken_below}
 use Rattle.qz_repgen.proofs.RoundSteps.{longer_later, of_one_length, candidates_are_kept, kept_up_to_next, kept_up_to_more, kept_of_next}
 use Rattle.qz_repgen.proofs.ShardLemmas.{held_same}
-use Rattle.qz_repgen.proofs.SortedLists.{contains_none}
+use Rattle.qz_circ.proofs.ClassLaws.{contains_none}
 
 module _ (b : Limits) (lawful : IsLawful b) (seed k : ℕ) (left : List ℕ) (kept : ListsExactly (IsKeptOf b (k + 1)) left) where
   -- the kept circuits of at most k gates, and the first i of those that are left

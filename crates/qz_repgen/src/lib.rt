@@ -8,8 +8,8 @@ ghost use Rattle.qz_repgen.specs.Reports.{IsReport};
 
 mod candidate;
 mod counts;
-mod finish;
 mod fingerprints;
+mod finish;
 pub mod laws;
 mod listing;
 mod rounds;

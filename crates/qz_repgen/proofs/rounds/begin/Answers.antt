@@ -16,7 +16,7 @@ pub take_in-requires-clause-ready : goal.take_in-requires-clause-ready
 take_in-requires-clause-ready g c =
     let print : c.finger-print.result ≡ print_at c.args.b c.args.probe.now.seed 0 = c.finger-print.ensures ∙ (λ i. fingerprint c.args.probe.now.seed (c.requires.qubits i) (sym (circuit_at-zero c.args.b) i)) in
     ready c.args.b c.args.probe.now.seed (λ r. ⊥) c.args.shards.now (empty_held c.args.b c.args.probe.now c.requires.qubits c.args.shards.now c.requires.empty) 0 c.finger-print.result print (λ none. none)
-    (some_circuit c.args.b c.requires.lawful)
+    (some_circuit c.args.b)
 
 pub returns : goal.returns
 returns g c =

@@ -1,7 +1,6 @@
-use Rattle.std.proofs.Common.{subst, sym, rules}
+use Rattle.std.proofs.Common.{rules}
 use Rattle.qz_circ.specs.Bounds.{IsLawful}
-use Rattle.qz_circ.specs.Classes.{ListsExactly}
-use Rattle.qz_repgen.specs.Rounds.{IsRepresentativeOf, IsKeptUpTo}
+use Rattle.qz_repgen.specs.Rounds.{IsKeptUpTo}
 use Rattle.qz_repgen.proofs.RoundLemmas.{parts_listed, parts_of_one_length, parts_number, left_listed}
 use Rattle.qz_repgen.proofs.ShardLemmas.{ranks_of_all}
 use Rattle.qz_repgen.proofs.rounds.next_kept.Goals as goal
