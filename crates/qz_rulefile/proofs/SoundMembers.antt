@@ -1,5 +1,5 @@
 -- Members of classes that are equivalent to the first ones.
-use Rattle.std.proofs.Common.{◌≡◌, ℕ, zero, suc, ◌+◌, ◌<◌, ◌≤◌, List, true, subst, below_more, arith}
+use Rattle.std.proofs.Common.{◌≡◌, ℕ, zero, suc, ◌+◌, List, true, subst, below_more, arith}
 use Rattle.std.specs.Prelude.{Bool, ◌↔◌, IsTrue}
 use Rattle.qz_circ.specs.Circuit.{Circuit}
 use Rattle.qz_circ.specs.Equivalence.{Equivalent}

@@ -1,5 +1,5 @@
 //! The class of a circuit among those with its fingerprint.
-ghost use Rattle.std.specs.Prelude.{◌≡◌, ◌↔◌, ◌+◌, ◌<◌, ◌≤◌, ◌==◌, ℕ, nat_eq, length, count_by, take, slice_index, All, IsTrue, IfOk};
+ghost use Rattle.std.specs.Prelude.{◌≡◌, ◌↔◌, ◌+◌, ◌<◌, ◌≤◌, ◌==◌, nat_eq, length, count_by, take, slice_index, All, IsTrue, IfOk};
 ghost use Rattle.indexmap.specs.IndexMap.{get};
 ghost use Rattle.qz_circ.specs.Circuit.{Circuit};
 ghost use Rattle.qz_circ.specs.Equivalence.{Equivalent};

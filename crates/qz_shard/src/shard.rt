@@ -1,7 +1,6 @@
 //! A shard: a journal of circuits and their classes.
-ghost use Rattle.std.specs.Prelude.{◌≡◌, ◌+◌, ◌<◌, ◌≤◌, ◌++◌, ◌∷◌, [], ℕ, List, length, nat_eq, slice_index, slice_index_or, Contains, IfOk, OnOk, OnErr};
-ghost use Rattle.qz_circ.specs.Order.{all_circuits, circuit_at};
-ghost use Rattle.qz_finger.specs.Fingerprint.{fingerprint};
+ghost use Rattle.std.specs.Prelude.{◌≡◌, ◌+◌, ◌<◌, ◌≤◌, ◌++◌, ◌∷◌, [], ℕ, List, length, slice_index, slice_index_or, Contains, IfOk, OnOk, OnErr};
+ghost use Rattle.qz_circ.specs.Order.{all_circuits};
 ghost use Rattle.qz_shard.specs.Journals.{AreClassesOf};
 ghost use Rattle.qz_shard.specs.Shards.{ShardParts, IsShard, IsAtHome, print_at, classes_with, different_prints};
 
