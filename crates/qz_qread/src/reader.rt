@@ -1,5 +1,5 @@
 //! Reads the text of a program.
-ghost use Rattle.std.specs.Prelude.{◌≡◌, ◌⊎◌, ◌<◌, ◌^◌, length, Err, IfOk};
+ghost use Rattle.std.specs.Prelude.{◌≡◌, ◌≢◌, ◌⊎◌, ◌<◌, ◌^◌, length, Err, IfOk};
 ghost use Rattle.qz_circ.specs.FirstFault.{GivesUnless, Gives, fault_as};
 ghost use Rattle.qz_circ.specs.Tokens.{tokens_of};
 ghost use Rattle.qz_circ.specs.Grammar.{program_of, program_from, with_statements};
@@ -93,6 +93,8 @@ pub fn read(alloc: Global, bytes: &[u8]) -> Result<Program, QasmFault>
     ensures faults { (e : QasmFault) → program_of bytes.now ≡ Err e → (result ≡ Err e) ⊎ (result ≡ Err QasmFault.Memory) }
     // The program is one whose text can be written.
     ensures valid { IfOk result Valid }
+    // Want of memory is answered as such alone, and never as a fault of tokens.
+    ensures memory_alone { result ≢ Err (QasmFault.Lex LexFault.Memory) }
 {
     let ts = cut(alloc, bytes)?;
     program(alloc, bytes, &ts)
