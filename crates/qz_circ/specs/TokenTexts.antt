@@ -9,6 +9,7 @@ use Rattle.qz_circ.specs.declared.token.Kind.{Kind}
 use Rattle.qz_circ.specs.declared.token.Kind.TheVariants.{Word, Pi, Whole, Real, Text, Semicolon, Comma, LeftParen, RightParen, LeftBracket, RightBracket, LeftBrace, RightBrace, Plus, Minus, Star, Slash, Caret, Arrow, Equal}
 use Rattle.qz_circ.specs.declared.fault.LexFault.{LexFault}
 use Rattle.qz_circ.specs.declared.fault.LexFault.TheVariants.{BadByte, LongName, BigNumber, Memory}
+use Rattle.qz_circ.specs.ProgramLimits.{longest_word, most_digits}
 use Rattle.qz_circ.specs.Tokens.{Front, is_blank, is_in_line, is_in_word, is_in_quotes}
 
 -- only digits, perhaps none
@@ -100,20 +101,19 @@ pub record IsLongest (what : Option Kind) (n : ℕ) (z : List ℕ) : Type 0 wher
   pub fits : IsTextOf what (take n z)
   pub longest : (other : Option Kind) (x rest : List ℕ) → z ≡ x ++ rest → IsTextOf other x → length x ≤ n
 
--- names have at most 64 bytes, and whole numbers at most eighteen digits
+-- words and whole numbers are within their limits of length
 abbrev pub IsWithinLimit : Kind → ℕ → Type 0
-IsWithinLimit Word n = n ≤ 64
-IsWithinLimit (Whole value) n = n ≤ 18
+IsWithinLimit Word n = n ≤ longest_word
+IsWithinLimit (Whole value) n = n ≤ most_digits
 IsWithinLimit kind n = Unit {0}
 
--- What is taken at the front of a text at a place: the longest gap; or the longest token, within its limit. A name of over 64
--- bytes or a number of over eighteen digits that is the longest token is a fault at the place, and so is a byte with which no
--- token and no gap begins.
+-- What is taken at the front of a text at a place: the longest gap; or the longest token, within its limit. A word or a whole
+-- number past its limit that is the longest token is a fault at the place, and so is a byte with which no token and no gap begins.
 abbrev pub IsRight : ℕ → List ℕ → Result Front LexFault → Type 0
 IsRight place z (Ok (Some kind, n)) = IsLongest (Some kind) n z × IsWithinLimit kind n
 IsRight place z (Ok (None, n)) = IsLongest None n z
-IsRight place z (Err (LongName p)) = (p ≡ place) × ((n : ℕ) × IsLongest (Some Word) n z × (64 < n))
-IsRight place z (Err (BigNumber p)) = (p ≡ place) × ((n value : ℕ) × IsLongest (Some (Whole value)) n z × (18 < n))
+IsRight place z (Err (LongName p)) = (p ≡ place) × ((n : ℕ) × IsLongest (Some Word) n z × (longest_word < n))
+IsRight place z (Err (BigNumber p)) = (p ≡ place) × ((n value : ℕ) × IsLongest (Some (Whole value)) n z × (most_digits < n))
 IsRight place z (Err (BadByte p)) = (p ≡ place) × ((what : Option Kind) (x rest : List ℕ) → z ≡ x ++ rest → IsTextOf what x → ⊥)
 IsRight place z (Err Memory) = ⊥
 
