@@ -63,7 +63,7 @@ fn is_free_name(bytes: &[u8], t: Token) -> bool
 }
 
 fn is_size(kind: Kind) -> bool
-    ensures { result ≡ (spec.is_whole kind && not (spec.whole_value kind == 0)) }
+    ensures { result ≡ (spec.is_whole kind && not (spec.number_of kind == 0)) }
 {
     match kind {
         Kind::Whole(n) => n != 0,

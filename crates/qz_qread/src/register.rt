@@ -4,7 +4,7 @@ ghost use Rattle.std.specs.List.{position, list_any, AllByRecursion};
 ghost use Rattle.std.specs.Str.{bytes_eq};
 ghost use Rattle.qz_circ.specs.Lexemes.{lexeme};
 ghost use Rattle.qz_circ.specs.FirstFault.{Gives, GivesUnless};
-ghost use Rattle.qz_circ.specs.Forms.{whole_value};
+ghost use Rattle.qz_circ.specs.Forms.{number_of};
 ghost use Rattle.qz_circ.specs.Grammar as spec;
 ghost use Rattle.qz_circ.specs.Registers.{total_size};
 ghost use Rattle.qz_circ.specs.ValidPrograms as valid;
@@ -25,7 +25,7 @@ const MOST_BITS: u64 = 4096;
 
 // The number that a token means, 0 where it isn't a whole one.
 fn value_of(t: Token) -> u64
-    ensures { result ≡ whole_value t.kind }
+    ensures { result ≡ number_of t.kind }
 {
     match t.kind {
         Kind::Whole(n) => n,
