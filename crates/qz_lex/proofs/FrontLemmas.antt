@@ -15,6 +15,7 @@ use Rattle.qz_circ.specs.declared.token.Kind.{Kind}
 use Rattle.qz_circ.specs.declared.fault.LexFault.{LexFault}
 use Rattle.qz_circ.specs.declared.fault.LexFault.TheVariants.{BadByte, LongName, BigNumber, Memory}
 use Rattle.qz_circ.specs.declared.token.Kind.TheVariants.{Word, Whole, Arrow, Equal, Semicolon, Comma, LeftParen, RightParen, LeftBracket, RightBracket, LeftBrace, RightBrace, Plus, Minus, Star, Slash, Caret}
+use Rattle.qz_circ.specs.ProgramLimits.{longest_word, most_digits}
 use Rattle.qz_circ.specs.Tokens.{Front, is_blank, is_in_line, is_in_word, is_in_quotes, digits, word, decimal_length, exponent_length, sign_length, number, quoted, one_byte_sign, one_byte_token, sign, front}
 use Rattle.qz_circ.specs.TokenTexts.{AreDigits, AreSignedDigits, IsExponent, HasPoint, HasExponent, IsWord, Spells, IsTextOf, IsLongest, IsWithinLimit, IsRight}
 use Rattle.qz_lex.proofs.LongestLemmas.{Reaches, reaches}
@@ -30,8 +31,8 @@ record IsTaken (what : Option Kind) (n : ℕ) (z : List ℕ) : Type 0 where
 abbrev IsFound : ℕ → List ℕ → Result Front LexFault → Type 0
 IsFound place z (Ok (Some kind, n)) = IsTaken (Some kind) n z × IsWithinLimit kind n
 IsFound place z (Ok (None, n)) = IsTaken None n z
-IsFound place z (Err (LongName p)) = (p ≡ place) × IsTaken (Some Word) (prefix_len is_in_word z) z × (64 < prefix_len is_in_word z)
-IsFound place z (Err (BigNumber p)) = (p ≡ place) × ((value : ℕ) × IsTaken (Some (Whole value)) (digits z) z × (18 < digits z))
+IsFound place z (Err (LongName p)) = (p ≡ place) × IsTaken (Some Word) (prefix_len is_in_word z) z × (longest_word < prefix_len is_in_word z)
+IsFound place z (Err (BigNumber p)) = (p ≡ place) × ((value : ℕ) × IsTaken (Some (Whole value)) (digits z) z × (most_digits < digits z))
 IsFound place z (Err (BadByte p)) = p ≡ place
 IsFound place z (Err Memory) = ⊥
 
@@ -47,10 +48,13 @@ all_right place z (Ok (Some kind, n)) found is = (longest_of place (Some kind) n
 all_right place z (Ok (None, n)) found is = longest_of place None n z (Ok (None, n)) (λ len h. h) found is
 all_right place z (Err (LongName p)) found is = (found.0, (prefix_len is_in_word z, longest_of place (Some Word) _ z (Err (LongName p)) (λ len h. h) found.1 is, found.2))
 all_right place z (Err (BigNumber p)) found is = (found.0, (digits z, found.1.0, longest_of place (Some (Whole found.1.0)) _ z (Err (BigNumber p)) (λ len h. h) found.1.1 is, found.1.2))
-all_right place z (Err (BadByte p)) found is = (found, λ what x rest begins fits. (
-    let there = subst (λ y. Reaches (x ++ rest) (length x) (front place y)) (sym begins) (reaches place what x rest fits) in
-    let reached : Reaches (x ++ rest) (length x) (Err (BadByte p)) = subst (λ r. Reaches (x ++ rest) (length x) r) (sym is) there in
-    reached))
+all_right place z (Err (BadByte p)) found is = (
+  found,
+  λ what x rest begins fits. (
+      let there = subst (λ y. Reaches (x ++ rest) (length x) (front place y)) (sym begins) (reaches place what x rest fits) in
+      let reached : Reaches (x ++ rest) (length x) (Err (BadByte p)) = subst (λ r. Reaches (x ++ rest) (length x) r) (sym is) there in
+      reached),
+)
 all_right place z (Err Memory) found is = found
 
 -- ---- choices
@@ -252,13 +256,16 @@ number_found place z some =
     let all = run_all is_ascii_digit z in
     let spelled : nat_lt whole n ≡ false → IsTaken (Some (Whole (digits_value 10 (take whole z)))) whole z = (λ same. record { within = within; fits = (all, omega (arith, len, some, at_most_by_test whole n same), refl) }) in
     found_either place z (nat_lt whole n) _ _
-    (λ more. (record {
-      within = omega (arith, decimal_within z, exponent_within behind, length-drop (decimal_length z) z);
-      fits = real_spelled z (decimal_length z) refl some (less_by_test whole n more);
-    }, tt))
-    (λ same. found_either place z (nat_lt 18 whole) _ _
-    (λ big. (refl, (digits_value 10 (take whole z), spelled same, less_by_test 18 whole big)))
-    (λ small. (spelled same, at_most_by_test 18 whole small)))
+    (λ more. (
+      record {
+        within = omega (arith, decimal_within z, exponent_within behind, length-drop (decimal_length z) z);
+        fits = real_spelled z (decimal_length z) refl some (less_by_test whole n more);
+      },
+      tt,
+    ))
+    (λ same. found_either place z (nat_lt most_digits whole) _ _
+    (λ big. (refl, (digits_value 10 (take whole z), spelled same, less_by_test most_digits whole big)))
+    (λ small. (spelled same, at_most_by_test most_digits whole small)))
 
 -- ---- words, texts and signs
 
@@ -268,7 +275,7 @@ word_taken b z h =
     let same : 1 + prefix_len is_in_word z ≡ suc (prefix_len is_in_word z) = omega arith in
     rw (inside, same) (h, run_all is_in_word z)
 
-long_is_not_pi : (x : List ℕ) → 64 < length x → x ≢ codes "pi"
+long_is_not_pi : (x : List ℕ) → longest_word < length x → x ≢ codes "pi"
 long_is_not_pi x long is = absurd (omega (arith, ap length is, long))
 
 word_found : (place b : ℕ) (z : List ℕ) → is_ascii_alphabetic b ≡ true → IsFound place (b ∷ z) (word place (b ∷ z))
@@ -280,11 +287,11 @@ word_found place b z h =
     let len = run_len is_in_word (b ∷ z) in
     let within = prefix_len-le-length is_in_word (b ∷ z) in
     let same = bytes_eq-Decides x (codes "pi") in
-    found_either place (b ∷ z) (nat_lt 64 n) _ _
-    (λ long. (let more = less_by_test 64 n long in (refl, record { within = within; fits = (taken, long_is_not_pi x (omega (arith, len, more))) }, more)))
+    found_either place (b ∷ z) (nat_lt longest_word n) _ _
+    (λ long. (let more = less_by_test longest_word n long in (refl, record { within = within; fits = (taken, long_is_not_pi x (omega (arith, len, more))) }, more)))
     (λ short. found_either place (b ∷ z) (bytes_eq x (codes "pi")) _ _
     (λ is. (record { within = within; fits = same.0 is }, tt))
-    (λ other. (record { within = within; fits = (taken, λ e. (let is = same.1 e in cc)) }, at_most_by_test 64 n short)))
+    (λ other. (record { within = within; fits = (taken, λ e. (let is = same.1 e in cc)) }, at_most_by_test longest_word n short)))
 
 quoted_found : (place : ℕ) (z : List ℕ) → IsFound place (34 ∷ z) (quoted place (34 ∷ z))
 unfolding quoted

@@ -77,14 +77,18 @@ unfolding program_of
 valid_of bytes ts (Ok p) is gives = what_is_read_is_valid bytes p (rw is gives)
 valid_of bytes ts (Err e) is gives = tt
 
--- want of memory is answered as such alone
-pub memory_alone : (bytes : List ℕ) (r : Result ProgramParts QasmFault) → GivesUnless Memory (λ p. p) r (program_of bytes) → r ≢ Err (Lex lex_fault.Memory)
-memory_alone bytes (Ok p) gives is = cc
-memory_alone bytes (Err e) gives is =
-    let same : e ≡ Lex lex_fault.Memory = cc in
-    no_tokens_lack_memory bytes (gives (λ other. (let no : Lex lex_fault.Memory ≡ Memory = sym same ∙ other in cc)) ∙ ap Err same)
-
--- and so by the tokens of the text
-pub memory_alone_of : (bytes : List ℕ) (ts : List Token) (r : Result ProgramParts QasmFault) → fault_as Lex (tokens_of bytes) ≡ Ok ts → GivesUnless Memory (λ p. p) r (program_from (length bytes) (statements_of (lexemes bytes ts))) → r ≢ Err (Lex lex_fault.Memory)
+-- want of memory is never a fault of tokens, neither where the tokens have a fault
+pub no_lexical_memory : {A : Type 0} (bytes : List ℕ) (e : QasmFault) → (e ≢ Memory → fault_as Lex (tokens_of bytes) ≡ Err e) → ◌≢◌ {A = Result A QasmFault} (Err e) (Err (Lex lex_fault.Memory))
 unfolding program_of
-memory_alone_of bytes ts r is gives = memory_alone bytes r (rw is gives)
+no_lexical_memory bytes e gives is =
+    let same : e ≡ Lex lex_fault.Memory = cc in
+    let read = gives (λ other. (let no : Lex lex_fault.Memory ≡ Memory = sym same ∙ other in cc)) ∙ ap Err same in
+    no_tokens_lack_memory bytes (rw read refl)
+
+-- nor where they are read
+pub no_lexical_memory_of : (bytes : List ℕ) (ts : List Token) (r : Result ProgramParts QasmFault) → fault_as Lex (tokens_of bytes) ≡ Ok ts → GivesUnless Memory (λ p. p) r (program_from (length bytes) (statements_of (lexemes bytes ts))) → r ≢ Err (Lex lex_fault.Memory)
+unfolding program_of
+no_lexical_memory_of bytes ts (Ok p) read gives is = cc
+no_lexical_memory_of bytes ts (Err e) read gives is =
+    let same : e ≡ Lex lex_fault.Memory = cc in
+    no_tokens_lack_memory bytes (rw read (gives (λ other. (let no : Lex lex_fault.Memory ≡ Memory = sym same ∙ other in cc)) ∙ ap Err same))

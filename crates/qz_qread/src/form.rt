@@ -1,7 +1,7 @@
 //! Reads the forms of statements: which tokens follow one another.
 ghost use Rattle.std.specs.Prelude.{◌≡◌, ◌+◌, ◌-◌, ◌<◌, ◌≤◌, ◌&&◌, ◌==◌, not, if◌then◌else◌, ℕ, List, [], ◌∷◌, ◌++◌, length, count_by, Err, OnOk};
 ghost use Rattle.qz_circ.specs.FirstFault.{Gives, GivesUnless};
-ghost use Rattle.qz_circ.specs.Lexemes.{lexeme, lexemes, kind_of};
+ghost use Rattle.qz_circ.specs.Lexemes.{lexeme, lexemes};
 ghost use Rattle.qz_circ.specs.Forms as spec;
 ghost use Rattle.qz_qread.specs.Expected as expects;
 ghost use Rattle.qz_qread.specs.FormParts as parts;
