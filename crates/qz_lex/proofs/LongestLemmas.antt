@@ -11,7 +11,7 @@ use Rattle.qz_circ.specs.declared.fault.LexFault.{LexFault}
 use Rattle.qz_circ.specs.declared.fault.LexFault.TheVariants.{BadByte, LongName, BigNumber, Memory}
 use Rattle.qz_circ.specs.declared.token.Kind.TheVariants.{Word, Pi, Whole, Real, Text, Semicolon, Comma, LeftParen, RightParen, LeftBracket, RightBracket, LeftBrace, RightBrace, Plus, Minus, Star, Slash, Caret, Arrow, Equal}
 use Rattle.qz_circ.specs.Tokens.{Front, is_blank, is_in_line, is_in_word, is_in_quotes, digits, word, decimal_length, exponent_length, sign_length, number, quoted, one_byte_sign, sign, front}
-use Rattle.qz_circ.specs.TokenTexts.{AreDigits, IsExponent, HasPoint, HasExponent, IsWord, Spells, AreBlanks, IsComment, IsTextOf}
+use Rattle.qz_circ.specs.TokenTexts.{AreDigits, IsExponent, HasPoint, HasExponent, IsWord, Spells, AreBlanks, IsTextOf}
 
 -- What was found at the front of a text has at least so many bytes. Of a name or a number past its limit that is said of all its
 -- bytes, and there is none where no token begins.
