@@ -3,7 +3,7 @@ use Rattle.std.proofs.lemmas.List.{length-map}
 use Rattle.qz_circ.specs.Lexemes.{lexeme, lexemes}
 use Rattle.qz_qread.specs.Views as views
 use Rattle.qz_qread.proofs.ReadForms.{angle_given}
-use Rattle.qz_qread.proofs.statement.gate.Goals as goal
+use Rattle.qz_qread.proofs.statement.add_gate.Goals as goal
 
 pub angle_number-requires : goal.angle_number-requires
 angle_number-requires c = λ takes.
