@@ -46,9 +46,9 @@ fn queue_with(alloc: Global, c: &[Inst]) -> Option<Queue>
     Some(queue)
 }
 
-// Which circuits a full queue is closed to, and which it holds.
+// Which circuits a full queue is closed to, and that it takes one that is earlier.
 fn is_closed(queue: &Queue) -> bool {
-    queue.is_closed_to_cost(2) && !queue.is_closed_to_cost(1) && !queue.contains(&[])
+    queue.is_closed_to_cost(2) && !queue.is_closed_to_cost(1) && !queue.refuses(&[])
 }
 
 // Merges a queue that holds one circuit into another.
@@ -56,8 +56,12 @@ fn merges_another(alloc: Global) -> Option<bool> {
     let mut queue = queue_with(alloc, &[Inst::H(0)])?;
     let other = queue_with(alloc, &[Inst::X(0)])?;
     queue.merge(other);
-    let both = queue.contains(&[Inst::H(0)]) && queue.contains(&[Inst::X(0)]);
-    Some(both && queue.len() == 2 && is_best(&queue, &[Inst::H(0)]) && is_closed(&queue))
+    let full = queue.len() == 2 && is_best(&queue, &[Inst::H(0)]) && is_closed(&queue);
+    let all = queue.take_batch(2).ok()?;
+    let both = all.len() == 2
+        && all[0].as_slice() == [Inst::H(0)]
+        && all[1].as_slice() == [Inst::X(0)];
+    Some(full && both)
 }
 
 fn queue_row(alloc: Global) -> Option<bool> {
