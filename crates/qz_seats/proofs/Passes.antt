@@ -1,9 +1,8 @@
 -- What a seat has after its slot was read and written.
-use Rattle.std.proofs.Common.{◌≡◌, ℕ, ◌+◌, ◌-◌, ◌<◌, Bool, List, [], ◌∷◌, ◌++◌, length, length-append, slice_get, slice_index, Option, Some, None, sym, refl, ap, subst, ◌∙◌, arith}
+use Rattle.std.proofs.Common.{◌≡◌, ℕ, ◌+◌, ◌<◌, Bool, List, [], ◌∷◌, ◌++◌, length, length-append, slice_get, slice_index, Option, Some, None, sym, refl, ap, subst, ◌∙◌, arith}
 use Rattle.atomic_table.specs.Table.{Me, rest}
 use Rattle.qz_seats.specs.declared.view.View.{View}
 use Rattle.std.proofs.lemmas.Option.{get_or_from_slice_get}
-use Rattle.qz_seats.specs.Receipts.{ReceiptParts}
 use Rattle.qz_seats.specs.Views.{taking, adding}
 use Rattle.qz_seats.specs.SeatRule.{count_of}
 use Rattle.qz_seats.specs.Steps.{IsSettleOne}

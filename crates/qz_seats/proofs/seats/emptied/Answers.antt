@@ -19,14 +19,15 @@ loop-i-preserved g c =
     let i = c.loop-i.i in
     let filled = slots_filled c.loop-i.closed.slots in
     let others = c.take-slot.ensures.others in
-    let at = sym (ap (λ xs. get_elem? xs i) c.loop-i.invariant.0) ∙ (c.take-slot.ensures.value ∙ ap some c.unwrap.ensures) in
-    (others.0 ∙ c.loop-i.invariant.0,
-     others.2 ∙ c.loop-i.invariant.1,
-     ap (map Some) c.push_reserved.ensures.items ∙ one_taken _ c.loop-i.values.items i c.unwrap.result c.loop-i.invariant.2 at,
-     c.push_reserved.ensures.capacity ∙ c.loop-i.invariant.3,
-     (λ k low high. subst (λ fs. slice_index_or fs k false ≡ true) (sym others.1)
-       (get_or-set_other filled i k false false (λ e. absurd (omega arith)) ∙ c.loop-i.invariant.4 k (omega arith) (omega (arith, others.2)))),
-     (λ k less. subst (λ fs. slice_index_or fs k false ≡ false) (sym others.1)
-       (dite (ℕ_discrete k i)
-         (λ e. ap (λ n. slice_index_or (Rattle.std.proofs.Common.set filled i false) n false) e ∙ cleared filled i)
-         (λ ne. get_or-set_other filled i k false false ne ∙ c.loop-i.invariant.5 k (omega arith)))))
+    let at = sym (ap (λ xs. get_elem? xs i) c.loop-i.invariant.0) ∙ (c.take-slot.ensures.value ∙ ap some c.unwrap.ensures) in (
+      others.0 ∙ c.loop-i.invariant.0,
+      others.2 ∙ c.loop-i.invariant.1,
+      ap (map Some) c.push_reserved.ensures.items ∙ one_taken _ c.loop-i.values.items i c.unwrap.result c.loop-i.invariant.2 at,
+      c.push_reserved.ensures.capacity ∙ c.loop-i.invariant.3,
+      (λ k low high. subst (λ fs. slice_index_or fs k false ≡ true) (sym others.1)
+          (get_or-set_other filled i k false false (λ e. absurd (omega arith)) ∙ c.loop-i.invariant.4 k (omega arith) (omega (arith, others.2)))),
+      (λ k less. subst (λ fs. slice_index_or fs k false ≡ false) (sym others.1)
+          (dite (ℕ_discrete k i)
+          (λ e. ap (λ n. slice_index_or (Rattle.std.proofs.Common.set filled i false) n false) e ∙ cleared filled i)
+          (λ ne. get_or-set_other filled i k false false ne ∙ c.loop-i.invariant.5 k (omega arith)))),
+    )
