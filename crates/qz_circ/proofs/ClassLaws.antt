@@ -23,37 +23,56 @@ contains_first x xs = (zero, omega arith, refl)
 pub contains_rest : {A : Type 0} (x : A) (xs : List A) (r : A) → Contains xs r → Contains (x ∷ xs) r
 contains_rest x xs r (k, in_range, same) = (suc k, omega arith, same)
 
+-- no element is in the empty list
+pub contains_none : {A : Type 0} (x : A) → Contains [] x → ⊥
+contains_none x has = omega (arith, has.1)
+
+module _ {A : Type 0} (R : A → A → Type 0) where
+  -- the pairs of the rest
+  pub pairs_tail : (x : A) (xs : List A) → AllPairs R (x ∷ xs) → AllPairs R xs
+  pairs_tail x xs pairs i j d before inside = pairs (suc i) (suc j) d (omega arith) (omega arith)
+
+  -- the first element with another one
+  pub pair_first : (x : A) (xs : List A) → AllPairs R (x ∷ xs) → (y : A) → Contains xs y → R x y
+  pair_first x xs pairs y (k, inside, is) = subst (R x) is (pairs zero (suc k) y (omega arith) (omega arith))
+
 -- the rest of a rising list rises
 pub rises_tail : (x : ℕ) (xs : List ℕ) → Rises (x ∷ xs) → Rises xs
-rises_tail x xs rises i j d before in_range = rises (suc i) (suc j) d (omega arith) (omega arith)
+rises_tail = pairs_tail (λ x y. x < y)
 
 -- the first number of a rising list is below the others
 pub first_below : (x : ℕ) (xs : List ℕ) → Rises (x ∷ xs) → (r : ℕ) → Contains xs r → x < r
-first_below x xs rises r (k, in_range, same) = subst (λ y. x < y) same (rises zero (suc k) r (omega arith) (omega arith))
+first_below = pair_first (λ x y. x < y)
 
--- rising lists with the same numbers are the same
-pub rising_lists_same : (xs ys : List ℕ) → Rises xs → Rises ys → ((r : ℕ) → Contains xs r → Contains ys r) → ((r : ℕ) → Contains ys r → Contains xs r) → xs ≡ ys
-rising_lists_same [] [] rx ry to from = refl
-rising_lists_same [] (y ∷ ys) rx ry to from = let has = from y (contains_first y ys) in absurd (omega (arith, has.1))
-rising_lists_same (x ∷ xs) [] rx ry to from = let has = to x (contains_first x xs) in absurd (omega (arith, has.1))
-rising_lists_same (x ∷ xs) (y ∷ ys) rx ry to from =
+-- lists that rise by a number of each element, with the same elements, are the same
+pub same_by_number : {A : Type 0} (number : A → ℕ) (xs ys : List A) → AllPairs (λ x y. number x < number y) xs → AllPairs (λ x y. number x < number y) ys →
+    ((x : A) → Contains xs x → Contains ys x) → ((x : A) → Contains ys x → Contains xs x) → xs ≡ ys
+same_by_number number [] [] rx ry to from = refl
+same_by_number number [] (y ∷ ys) rx ry to from = absurd (contains_none y (from y (contains_first y ys)))
+same_by_number number (x ∷ xs) [] rx ry to from = absurd (contains_none x (to x (contains_first x xs)))
+same_by_number {A} number (x ∷ xs) (y ∷ ys) rx ry to from =
+    let R : A → A → Type 0 = λ a c. number a < number c in
     let first : x ≡ y = elim (contains_cases y ys x (to x (contains_first x xs))) [
       | inl same ↦ sym same
       | inr later ↦ elim (contains_cases x xs y (from y (contains_first y ys))) [
         | inl same ↦ same
-        | inr later' ↦ absurd (omega (arith, first_below y ys ry x later, first_below x xs rx y later'))
+        | inr later' ↦ absurd (omega (arith, pair_first R y ys ry x later, pair_first R x xs rx y later'))
       ]
     ] in
-    let to_rest : (r : ℕ) → Contains xs r → Contains ys r = λ r has. elim (contains_cases y ys r (to r (contains_rest x xs r has))) [
-      | inl same ↦ absurd (omega (arith, first_below x xs rx r has))
+    let to_rest : (z : A) → Contains xs z → Contains ys z = λ z has. elim (contains_cases y ys z (to z (contains_rest x xs z has))) [
+      | inl same ↦ absurd (omega (arith, pair_first R x xs rx z has, ap number (first ∙ same)))
       | inr later ↦ later
     ] in
-    let from_rest : (r : ℕ) → Contains ys r → Contains xs r = λ r has. elim (contains_cases x xs r (from r (contains_rest y ys r has))) [
-      | inl same ↦ absurd (omega (arith, first_below y ys ry r has))
+    let from_rest : (z : A) → Contains ys z → Contains xs z = λ z has. elim (contains_cases x xs z (from z (contains_rest y ys z has))) [
+      | inl same ↦ absurd (omega (arith, pair_first R y ys ry z has, ap number (sym first ∙ same)))
       | inr later ↦ later
     ] in
-    let rest = rising_lists_same xs ys (rises_tail x xs rx) (rises_tail y ys ry) to_rest from_rest in
+    let rest = same_by_number number xs ys (pairs_tail R x xs rx) (pairs_tail R y ys ry) to_rest from_rest in
     λ i. first i ∷ rest i
+
+-- rising lists with the same numbers are the same
+pub rising_lists_same : (xs ys : List ℕ) → Rises xs → Rises ys → ((r : ℕ) → Contains xs r → Contains ys r) → ((r : ℕ) → Contains ys r → Contains xs r) → xs ≡ ys
+rising_lists_same = same_by_number (λ x. x)
 
 -- at most one list lists exactly the numbers of which a fact holds
 pub lists_exactly_same : (P : ℕ → Type 0) (xs ys : List ℕ) → ListsExactly P xs → ListsExactly P ys → xs ≡ ys

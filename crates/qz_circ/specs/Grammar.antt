@@ -13,6 +13,7 @@ use Rattle.qz_circ.specs.declared.fault.QasmFault.{QasmFault}
 use Rattle.qz_circ.specs.declared.fault.QasmFault.TheVariants as fault
 use Rattle.qz_circ.specs.declared.gate_name.GateName.{GateName}
 use Rattle.qz_circ.specs.FirstFault.{◌>>=◌, fault_as}
+use Rattle.qz_circ.specs.ProgramLimits.{most_registers, most_qubits, most_bits, most_gates}
 use Rattle.qz_circ.specs.Circuit.{below}
 use Rattle.qz_circ.specs.Registers.{RegisterParts, total_size}
 use Rattle.qz_circ.specs.Programs.{ProgramParts}
@@ -33,21 +34,21 @@ has_register p name = list_any (λ r. bytes_eq r.name name) (registers_of p)
 unfoldable pub declared : ProgramParts → Declaration → Result RegisterParts QasmFault
 declared p d =
     if has_register p d.name.text then Err (fault.Twice (place_of d.name))
-    else if nat_lt (length (registers_of p)) 64 then Ok (record { name = d.name.text; size = value_of d.size })
+    else if nat_lt (length (registers_of p)) most_registers then Ok (record { name = d.name.text; size = value_of d.size })
     else Err (fault.Limit ProgramRegisters (place_of d.name))
 
 -- with a register of qubits more, while all together are at most 64
 unfoldable pub with_qreg : ProgramParts → Declaration → Result ProgramParts QasmFault
 with_qreg p d = do
   r ← declared p d
-  if nat_lt 64 (total_size p.qregs + r.size) then Err (fault.Limit ProgramQubits (place_of d.size))
+  if nat_lt most_qubits (total_size p.qregs + r.size) then Err (fault.Limit ProgramQubits (place_of d.size))
       else Ok (record p { qregs = p.qregs ++ r ∷ [] })
 
 -- with a register of bits more, while all together are at most 4,096
 unfoldable pub with_creg : ProgramParts → Declaration → Result ProgramParts QasmFault
 with_creg p d = do
   r ← declared p d
-  if nat_lt 4096 (total_size p.cregs + r.size) then Err (fault.Limit ProgramBits (place_of d.size))
+  if nat_lt most_bits (total_size p.cregs + r.size) then Err (fault.Limit ProgramBits (place_of d.size))
       else Ok (record p { cregs = p.cregs ++ r ∷ [] })
 
 -- ---- operands
@@ -143,7 +144,7 @@ ordered_gate_form p gate len word ls = if length p.tail == 0 then gate_form gate
 -- with gates more, while all together are at most 20,000
 unfoldable pub with_gates : ProgramParts → Lexeme → List Inst → Result ProgramParts QasmFault
 with_gates p word gates =
-    if nat_lt 20000 (length p.gates + length gates) then Err (fault.Limit ProgramGates (place_of word))
+    if nat_lt most_gates (length p.gates + length gates) then Err (fault.Limit ProgramGates (place_of word))
     else Ok (record p { gates = p.gates ++ gates })
 
 -- a gate that begins with a word

@@ -10,6 +10,7 @@ use Rattle.qz_circ.specs.declared.circuit.Op.TheVariants.{H, X, Cx, Rz}
 use Rattle.qz_circ.specs.declared.circuit.Inst.TheVariants.{H as ProgramH, X as ProgramX, Cx as ProgramCx, Rz as ProgramRz}
 use Rattle.qz_circ.specs.Circuit.{Circuit}
 use Rattle.qz_circ.specs.Exponent.{angle_value}
+use Rattle.qz_circ.specs.ProgramLimits.{most_qubits}
 use Rattle.qz_circ.specs.ProgramCircuits.{ProgramCircuit}
 
 -- ---- instances
@@ -33,7 +34,7 @@ slot slots s = slice_index_or slots s None
 
 -- the qubit that stands for a rule's; where none does, a number past those of all programs
 abbrev pub qubit_of : Binding → ℕ → ℕ
-qubit_of bind s = unwrap_or (slot bind.qubits s) (64 + s)
+qubit_of bind s = unwrap_or (slot bind.qubits s) (most_qubits + s)
 
 -- the value of a parameter; where it has none, 0
 abbrev pub param_of : Binding → ℕ → ℕ

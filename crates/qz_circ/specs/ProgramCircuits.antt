@@ -8,6 +8,7 @@ use Rattle.std.specs.Cmp.Lexicographic.{slice_cmp}
 use Rattle.qz_circ.specs.declared.circuit.Inst.{Inst}
 use Rattle.qz_circ.specs.declared.circuit.Inst.TheVariants.{H, X, Cx, Rz}
 use Rattle.qz_circ.specs.declared.circuit.Op.TheVariants.{H as RuleH, X as RuleX, Cx as RuleCx}
+use Rattle.qz_circ.specs.ProgramLimits.{most_qubits}
 use Rattle.qz_circ.specs.Exponent.{Exponent, turn_of}
 use Rattle.qz_circ.specs.Paths.{Ways, entry, rotation_ways, ways_along, root2}
 use Rattle.qz_circ.specs.Equivalence.{SameUpTo}
@@ -25,7 +26,7 @@ IsProgramGate q (Rz t k) = (t < q) × (1 ≤ k) × (k < 512)
 
 -- such gates on q qubits, of which there are at most 64, and perhaps none
 pub record IsProgramCircuit (q : ℕ) (c : ProgramCircuit) : Type 0 where
-  pub few : q ≤ 64
+  pub few : q ≤ most_qubits
   pub gates : AllByRecursion (IsProgramGate q) c
 
 -- the ways through one gate: those of the same gate of a rule; the exponent of angle k is k turns

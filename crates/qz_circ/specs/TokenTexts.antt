@@ -7,6 +7,7 @@ use Rattle.qz_circ.specs.declared.token.Kind.{Kind}
 use Rattle.qz_circ.specs.declared.token.Kind.TheVariants.{Word, Pi, Whole, Real, Text, Semicolon, Comma, LeftParen, RightParen, LeftBracket, RightBracket, LeftBrace, RightBrace, Plus, Minus, Star, Slash, Caret, Arrow, Equal}
 use Rattle.qz_circ.specs.declared.fault.LexFault.{LexFault}
 use Rattle.qz_circ.specs.declared.fault.LexFault.TheVariants.{BadByte, LongName, BigNumber, Memory}
+use Rattle.qz_circ.specs.ProgramLimits.{longest_word, most_digits}
 use Rattle.qz_circ.specs.Tokens.{Front, is_in_word, is_in_quotes}
 
 -- only digits, perhaps none
@@ -85,10 +86,10 @@ Reaches len (Err (BigNumber place)) = Unit {0}
 Reaches len (Err (BadByte place)) = ⊥
 Reaches len (Err Memory) = ⊥
 
--- names have at most 64 bytes, and whole numbers at most eighteen digits
+-- words and whole numbers are within their limits of length
 abbrev pub IsWithinLimit : Kind → ℕ → Type 0
-IsWithinLimit Word n = n ≤ 64
-IsWithinLimit (Whole value) n = n ≤ 18
+IsWithinLimit Word n = n ≤ longest_word
+IsWithinLimit (Whole value) n = n ≤ most_digits
 IsWithinLimit kind n = Unit {0}
 
 -- What was found at the front of a text at a place: a token's text of its kind and within its limit, or a gap; a name of over
@@ -96,7 +97,7 @@ IsWithinLimit kind n = Unit {0}
 abbrev pub IsRight : ℕ → List ℕ → Result Front LexFault → Type 0
 IsRight place z (Ok (Some kind, n)) = Spells kind (take n z) × IsWithinLimit kind n
 IsRight place z (Ok (None, n)) = Unit {0}
-IsRight place z (Err (LongName p)) = (p ≡ place) × ((n : ℕ) × IsWord (take n z) × (64 < n) × (n ≤ length z))
-IsRight place z (Err (BigNumber p)) = (p ≡ place) × ((n : ℕ) × AreDigits (take n z) × (18 < n) × (n ≤ length z))
+IsRight place z (Err (LongName p)) = (p ≡ place) × ((n : ℕ) × IsWord (take n z) × (longest_word < n) × (n ≤ length z))
+IsRight place z (Err (BigNumber p)) = (p ≡ place) × ((n : ℕ) × AreDigits (take n z) × (most_digits < n) × (n ≤ length z))
 IsRight place z (Err (BadByte p)) = p ≡ place
 IsRight place z (Err Memory) = ⊥

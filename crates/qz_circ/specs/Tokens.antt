@@ -10,6 +10,7 @@ use Rattle.qz_circ.specs.declared.token.Kind.TheVariants.{Word, Pi, Whole, Real,
 use Rattle.qz_circ.specs.declared.fault.LexFault.{LexFault}
 use Rattle.qz_circ.specs.declared.fault.LexFault.TheVariants.{BadByte, LongName, BigNumber}
 use Rattle.qz_circ.specs.FirstFault.{◌>>=◌}
+use Rattle.qz_circ.specs.ProgramLimits.{longest_word, most_digits}
 
 -- what stands at the front of a text: a token of some kind, or none where it is a gap; and how many bytes it has
 abbrev pub Front : Type 0
@@ -36,10 +37,6 @@ abbrev pub digits : List ℕ → ℕ
 digits z = prefix_len is_ascii_digit z
 
 -- ---- words
-
--- the most bytes of a word
-abbrev pub longest_word : ℕ
-longest_word = 64
 
 -- the word at the front of a text that begins with a letter
 unfoldable pub word : ℕ → List ℕ → Result Front LexFault
@@ -68,10 +65,6 @@ exponent_length z =
     let sign = sign_length (slice_index z 1) in
     let count = digits (drop (1 + sign) z) in
     if (slice_index z 0 == 101 || slice_index z 0 == 69) && nat_lt 0 count then 1 + sign + count else 0
-
--- the most digits of a whole number
-abbrev pub most_digits : ℕ
-most_digits = 18
 
 -- the number at the front of a text that begins with one: digits alone are whole, and all other numbers are real
 unfoldable pub number : ℕ → List ℕ → Result Front LexFault

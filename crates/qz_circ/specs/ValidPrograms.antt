@@ -5,7 +5,8 @@ use Rattle.std.specs.List.{AllByRecursion, AllPairs}
 use Rattle.qz_circ.specs.declared.program.Arg.{Arg}
 use Rattle.qz_circ.specs.declared.program.Tail.{Tail}
 use Rattle.qz_circ.specs.declared.program.Tail.TheVariants.{Barrier, Measure}
-use Rattle.qz_circ.specs.Tokens.{is_in_word, longest_word}
+use Rattle.qz_circ.specs.Tokens.{is_in_word}
+use Rattle.qz_circ.specs.ProgramLimits.{most_registers, most_bits, most_gates, longest_word}
 use Rattle.qz_circ.specs.ProgramCircuits.{IsProgramCircuit}
 use Rattle.qz_circ.specs.Registers.{RegisterParts, names_of, total_size}
 use Rattle.qz_circ.specs.Programs.{ProgramParts}
@@ -74,9 +75,9 @@ registers_of p = p.qregs ++ p.cregs
 pub record Valid (p : ProgramParts) : Type 0 where
   pub names : AllByRecursion IsRegisterName (names_of (registers_of p))
   pub different : AllPairs (λ a b. a ≢ b) (names_of (registers_of p))
-  pub few_registers : length (registers_of p) ≤ 64
+  pub few_registers : length (registers_of p) ≤ most_registers
   pub sizes : AllByRecursion (λ r. 1 ≤ r.size) (registers_of p)
-  pub few_bits : total_size p.cregs ≤ 4096
+  pub few_bits : total_size p.cregs ≤ most_bits
   pub gates : IsProgramCircuit (total_size p.qregs) p.gates
-  pub few_gates : length p.gates ≤ 20000
+  pub few_gates : length p.gates ≤ most_gates
   pub tail : AllByRecursion (IsStatement p.qregs p.cregs) p.tail

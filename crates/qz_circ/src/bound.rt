@@ -1,6 +1,6 @@
 //! The bounds of a generation: how many gates, qubits and parameters its circuits may have.
 ghost use Rattle.std.specs.Prelude.{◌≡◌, ℕ, ◌<◌, ◌≤◌, ◌+◌, ◌*◌, ◌↔◌, IsOk, IfOk, Some, length};
-ghost use Rattle.qz_circ.specs.Circuit.{gates_of};
+ghost use Rattle.qz_circ.specs.Circuit.{angles};
 ghost use Rattle.qz_circ.specs.Bounds.{refusal, gate_count, IsLawful};
 ghost use Rattle.qz_circ.specs.Order.{all_circuits};
 
@@ -29,6 +29,16 @@ impl Model for Bounds {
     ghost inverse = { λ b. record { n = b.n; q = b.q; m = b.m } };
 }
 
+// How many angles there are with m parameters.
+pub(crate) fn count_angles(m: u64) -> u64
+    requires { m ≤ 3 }
+    ensures count { result ≡ length (angles m) }
+    ensures some { 7 ≤ result }
+    ensures few { result ≤ 16 }
+{
+    7 + 2 * m + m * m.saturating_sub(1) / 2
+}
+
 // How many gates there are on q qubits with m parameters.
 fn count_gates(q: u64, m: u64) -> u64
     requires qubits { q ≤ 3 }
@@ -36,8 +46,7 @@ fn count_gates(q: u64, m: u64) -> u64
     ensures count { (n : ℕ) → result ≡ gate_count (record { n = n; q = q; m = m }) }
     ensures few { result ≤ 60 }
 {
-    let angles = 7 + 2 * m + m * m.saturating_sub(1) / 2;
-    q * (1 + q + angles)
+    q * (1 + q + count_angles(m))
 }
 
 // The first of these numbers that is refused, if any.

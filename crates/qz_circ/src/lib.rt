@@ -12,8 +12,10 @@ pub mod gate_name;
 pub mod laws;
 pub mod order;
 pub mod program;
+pub mod program_limits;
 pub mod ranks;
 pub mod report;
+pub mod states;
 pub mod step_count;
 pub mod token;
 pub mod worked_places;
@@ -30,7 +32,11 @@ pub use fault::{AngleFault, LexFault, LimitFault, Memory, QasmFault, RuleFault, 
 pub use gate_name::GateName;
 pub use order::{prec, prec_insts};
 pub use program::{Arg, Args, Program, Register, Tail};
+pub use program_limits::{
+    LONGEST_WORD, MOST_BITS, MOST_DIGITS, MOST_GATES, MOST_QUBITS, MOST_REGISTERS,
+};
 pub use ranks::{drop_first_rank, drop_last_rank, length_of, op_number, op_of, rank, unrank};
 pub use report::Report;
+pub use states::{entries_on, flipped_state, has_bit, states_on};
 pub use step_count::Steps;
 pub use token::{Kind, Token};

@@ -5,20 +5,10 @@ ghost use Rattle.qz_circ.specs.Bounds.{gate_count};
 ghost use Rattle.qz_circ.specs.Order.{all_circuits, rank, circuit_at};
 ghost use Rattle.qz_circ.specs.Classes.{without_first, without_last};
 
-use crate::bound::Bounds;
+use crate::bound::{Bounds, count_angles};
 use crate::circuit::{Expr, Op};
 use crate::fault::Memory;
 use std::alloc::Global;
-
-// How many angles there are with m parameters.
-fn count_angles(m: u64) -> u64
-    requires { m ≤ 3 }
-    ensures count { result ≡ length (angles m) }
-    ensures some { 7 ≤ result }
-    ensures few { result ≤ 16 }
-{
-    7 + 2 * m + m * m.saturating_sub(1) / 2
-}
 
 // The angle with this number among those with m parameters.
 #[tactic(auto, using(std::proofs::lemmas::Bool::Decides::nat_tests, crate::proofs::GateNumbers::angle_listed))]

@@ -1,6 +1,5 @@
 //! Worked values of which program a text is.
-ghost use Rattle.std.specs.Prelude.{◌≡◌, [], ◌∷◌, codes, Some, None, Ok, Err};
-ghost use Rattle.qz_circ.specs.declared.circuit.Inst.TheVariants.{H, X, Cx, Rz};
+ghost use Rattle.std.specs.Prelude.{◌≡◌, [], codes, Ok, Err};
 ghost use Rattle.qz_circ.specs.declared.fault.QasmFault.TheVariants as fault;
 ghost use Rattle.qz_circ.specs.Grammar.{program_of, empty_program};
 

@@ -6,9 +6,8 @@ ghost use Rattle.qz_circ.specs.declared.circuit.Inst.TheVariants.{H as ProgramH,
 ghost use Rattle.qz_circ.specs.declared.circuit.Op.TheVariants.{H, X, Cx, Rz};
 ghost use Rattle.qz_circ.specs.Circuit.{angles};
 ghost use Rattle.qz_circ.specs.Exponent.{zero_exponent, turn_of, angle_value};
-ghost use Rattle.qz_circ.specs.Joined.{Joined};
 ghost use Rattle.qz_circ.specs.Order.{all_circuits, rank, circuit_at};
-ghost use Rattle.qz_circ.specs.Paths.{paths, count, root2};
+ghost use Rattle.qz_circ.specs.Paths.{paths, count};
 ghost use Rattle.qz_circ.specs.ProgramCircuits.{IsProgramGate, IsProgramCircuit, program_paths, program_cmp};
 
 /// With at most two gates on one qubit there are 91 circuits; X and then a rotation by π/4 comes after 21 of them,
@@ -28,6 +27,7 @@ pub fn angles_come_in_order()
 {}
 
 /// CX on control 0 and target 1 takes state 1, where qubit 0 alone is 1, to state 3, where both are; and keeps state 2.
+#[tactic(auto, unfolding(crate::specs::Paths::entry, crate::specs::Paths::ways_through, crate::specs::Paths::identity_ways, crate::specs::Paths::ways_along, crate::specs::Paths::paths, crate::specs::Paths::total, crate::specs::Paths::count))]
 pub fn control_comes_first()
     ensures flips { count (paths 2 (Cx 0 1 ∷ []) 3 1) zero_exponent ≡ pos 1 }
     ensures leaves { count (paths 2 (Cx 0 1 ∷ []) 1 1) zero_exponent ≡ pos 0 }
@@ -36,6 +36,7 @@ pub fn control_comes_first()
 
 /// A rotation by π/4 multiplies the qubit's 1 by ζ^64, one by a parameter by its unknown, one by the negative of a
 /// parameter by the inverse, and one by a sum by both. The last leaves the 0 as it is.
+#[tactic(auto, unfolding(crate::specs::Paths::entry, crate::specs::Paths::ways_through, crate::specs::Paths::identity_ways, crate::specs::Paths::ways_along, crate::specs::Paths::paths, crate::specs::Paths::total, crate::specs::Paths::count))]
 pub fn rotations_multiply_by_their_angle()
     ensures constant { count (paths 1 (Rz 0 (Const 1) ∷ []) 1 1) (turn_of 64) ≡ pos 1 }
     ensures parameter { count (paths 1 (Rz 0 (Plus 1) ∷ []) 1 1) (record { turn = 0; x0 = pos 0; x1 = pos 1; x2 = pos 0 }) ≡ pos 1 }
@@ -65,6 +66,7 @@ pub fn program_gates_are_told()
 
 /// Of program circuits on two qubits X on qubit 1 comes before CX on 0 and 1; a rotation of qubit 0 comes before one of
 /// qubit 1 by a smaller angle; and two X come after one rotation.
+#[tactic(auto, unfolding(crate::specs::ProgramCircuits::program_cmp, crate::specs::ProgramCircuits::program_gate_cmp))]
 pub fn program_circuits_come_in_order()
     ensures kinds { program_cmp (ProgramX 1 ∷ []) (ProgramCx 0 1 ∷ []) ≡ Less }
     ensures qubits { program_cmp (ProgramRz 0 2 ∷ []) (ProgramRz 1 1 ∷ []) ≡ Less }
@@ -79,25 +81,12 @@ pub fn angles_have_values()
     ensures sum { angle_value (λ i. 100 + 400 * i) (Sum 0 1) ≡ 88 }
 {}
 
-/// Where the empty circuit and two flips are a class, three flips are joined to one flip through circuits of at most
-/// three gates.
-pub fn steps_join()
-    ensures { Joined (([] ∷ (X 0 ∷ X 0 ∷ []) ∷ []) ∷ []) 3 (X 0 ∷ X 0 ∷ X 0 ∷ []) (X 0 ∷ []) }
-{}
-
 /// H twice on one qubit, with its two factors 1/√2 left out, counts the exponent 0 twice from each state to itself, and
 /// in sum never to the other.
+#[tactic(auto, unfolding(crate::specs::Paths::entry, crate::specs::Paths::ways_through, crate::specs::Paths::identity_ways, crate::specs::Paths::ways_along, crate::specs::Paths::paths, crate::specs::Paths::total, crate::specs::Paths::count))]
 pub fn h_twice_is_two()
     ensures at_0_0 { count (paths 1 (H 0 ∷ H 0 ∷ []) 0 0) zero_exponent ≡ pos 2 }
     ensures at_0_1 { count (paths 1 (H 0 ∷ H 0 ∷ []) 0 1) zero_exponent ≡ pos 0 }
     ensures at_1_0 { count (paths 1 (H 0 ∷ H 0 ∷ []) 1 0) zero_exponent ≡ pos 0 }
     ensures at_1_1 { count (paths 1 (H 0 ∷ H 0 ∷ []) 1 1) zero_exponent ≡ pos 2 }
-{}
-
-/// The square root of two, twice, counts the exponent 0 twice, and in sum no other multiple of 64 turns below 256.
-pub fn root_twice_is_two()
-    ensures at_0 { count (root2 2 (record { sign = pos 1; exponent = zero_exponent } ∷ [])) zero_exponent ≡ pos 2 }
-    ensures at_64 { count (root2 2 (record { sign = pos 1; exponent = zero_exponent } ∷ [])) (turn_of 64) ≡ pos 0 }
-    ensures at_128 { count (root2 2 (record { sign = pos 1; exponent = zero_exponent } ∷ [])) (turn_of 128) ≡ pos 0 }
-    ensures at_192 { count (root2 2 (record { sign = pos 1; exponent = zero_exponent } ∷ [])) (turn_of 192) ≡ pos 0 }
 {}

@@ -137,8 +137,7 @@ fn has_phase_at(
 {
     let (j, i, lead) = pivot;
     let other = times_roots(y.entry(i, j), roots)?;
-    let same = has_candidate(x, y, roots, lead, &other)?;
-    Ok(same)
+    has_candidate(x, y, roots, lead, &other)
 }
 
 // Whether some monomial takes y, times √2 for each H that it has fewer, to x.
@@ -153,9 +152,6 @@ pub(crate) fn same_up_to_phase(x: &Matrix, y: &Matrix) -> Result<bool, Memory>
     }
     match pivot(x) {
         None => Ok(true),
-        Some(found) => {
-            let same = has_phase_at(x, y, x.halves() - y.halves(), found)?;
-            Ok(same)
-        }
+        Some(found) => has_phase_at(x, y, x.halves() - y.halves(), found),
     }
 }

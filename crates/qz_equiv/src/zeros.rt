@@ -3,6 +3,7 @@ ghost use Rattle.std.specs.Prelude.{◌≡◌, ◌↔◌, ◌^◌, ◌<◌, IsTr
 ghost use Rattle.qz_ring.specs.Counts.{CountsNothing};
 ghost use Rattle.qz_equiv.specs.Phases.{AreAlike, AreAlikeColumns, AreAlikeMatrices, IsCountedExponent, IsZeroColumn, IsPivotOfColumn, IsZeroMatrix, IsPivot};
 
+use qz_circ::states_on;
 use qz_matrix::Matrix;
 use qz_ring::{Elem, Exponent};
 
@@ -10,7 +11,7 @@ use qz_ring::{Elem, Exponent};
 pub(crate) fn rows_of(x: &Matrix) -> u64
     ensures { result ≡ 2 ^ x.now.q }
 {
-    1 << x.q()
+    states_on(x.q()) as u64
 }
 
 // Whether both sums are zero, or neither is.

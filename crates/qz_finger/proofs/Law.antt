@@ -4,7 +4,7 @@ use Rattle.qz_circ.specs.Circuit.{Circuit}
 use Rattle.qz_circ.specs.Exponent.{Exponent}
 use Rattle.qz_circ.specs.Paths.{paths, halves}
 use Rattle.qz_circ.specs.Equivalence.{Equivalent}
-use Rattle.qz_finger.specs.Modulo.{modulus, minus_one, half, seventh}
+use Rattle.qz_finger.specs.Modulo.{modulus, minus_one, half, parameter_base, inverse_parameter_base}
 use Rattle.qz_finger.specs.Weights.{weight, inverse_weight, power_of}
 use Rattle.qz_finger.specs.Fingerprint.{Bases, bases_of, inverted, value, value_of, weighed, weighed_values, weighed_inverses, fingerprint}
 use Rattle.qz_finger.proofs.Modular.{Same, same_by, same_mul}
@@ -29,9 +29,9 @@ root_two = 18446742969919734017
 bases_are : (seed q : ℕ) → AreBases modulus (bases_of seed q)
 unfolding bases_of
 bases_are seed q = record {
-  first = inverse_powers modulus 7 seventh (power_of seed q 0) refl;
-  second = inverse_powers modulus 7 seventh (power_of seed q 1) refl;
-  third = inverse_powers modulus 7 seventh (power_of seed q 2) refl;
+  first = inverse_powers modulus parameter_base inverse_parameter_base (power_of seed q 0) refl;
+  second = inverse_powers modulus parameter_base inverse_parameter_base (power_of seed q 1) refl;
+  third = inverse_powers modulus parameter_base inverse_parameter_base (power_of seed q 2) refl;
 }
 
 -- so have the inverse bases

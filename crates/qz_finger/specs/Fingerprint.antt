@@ -3,7 +3,7 @@ use Rattle.std.specs.Prelude.{ℕ, ◌+◌, ◌*◌, ◌/◌, ◌%◌, ◌^◌, 
 use Rattle.qz_circ.specs.Circuit.{Circuit}
 use Rattle.qz_circ.specs.Exponent.{Exponent}
 use Rattle.qz_circ.specs.Paths.{Path, Ways, paths, halves}
-use Rattle.qz_finger.specs.Modulo.{modulus, minus_one, half, seventh, eighth, inverse_eighth, residue, raise, sum_below}
+use Rattle.qz_finger.specs.Modulo.{modulus, minus_one, half, parameter_base, inverse_parameter_base, eighth_root, inverse_eighth_root, residue, raise, sum_below}
 use Rattle.qz_finger.specs.Weights.{weight, inverse_weight, power_of}
 
 -- what a contract sees of a probe: the seed of its random numbers, and the number of qubits
@@ -29,14 +29,14 @@ inverted b = record { root = b.inverse_root; inverse_root = b.root; g0 = b.h0; h
 -- ω stands for 2^24, and each parameter for its power of 7
 unfoldable pub bases_of : ℕ → ℕ → Bases
 bases_of seed q = record {
-  root = eighth;
-  inverse_root = inverse_eighth;
-  g0 = 7 ^ power_of seed q 0;
-  h0 = seventh ^ power_of seed q 0;
-  g1 = 7 ^ power_of seed q 1;
-  h1 = seventh ^ power_of seed q 1;
-  g2 = 7 ^ power_of seed q 2;
-  h2 = seventh ^ power_of seed q 2;
+  root = eighth_root;
+  inverse_root = inverse_eighth_root;
+  g0 = parameter_base ^ power_of seed q 0;
+  h0 = inverse_parameter_base ^ power_of seed q 0;
+  g1 = parameter_base ^ power_of seed q 1;
+  h1 = inverse_parameter_base ^ power_of seed q 1;
+  g2 = parameter_base ^ power_of seed q 2;
+  h2 = inverse_parameter_base ^ power_of seed q 2;
 }
 
 -- the value of a monomial whose turn is a multiple of 64, as in all circuits of rules

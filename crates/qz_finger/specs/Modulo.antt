@@ -13,17 +13,21 @@ minus_one = 18446744069414584320
 abbrev pub half : ℕ
 half = 9223372034707292161
 
--- the inverse of 7 modulo p
-abbrev pub seventh : ℕ
-seventh = 2635249152773512046
+-- the base whose powers stand for the parameters
+abbrev pub parameter_base : ℕ
+parameter_base = 7
 
--- 2^24 stands for ω = e^(iπ/4), since its fourth power 2^96 is -1 modulo p
-abbrev pub eighth : ℕ
-eighth = 16777216
+-- its inverse modulo p
+abbrev pub inverse_parameter_base : ℕ
+inverse_parameter_base = 2635249152773512046
 
--- the inverse of 2^24 modulo p, which is 2^168
-abbrev pub inverse_eighth : ℕ
-inverse_eighth = 18446742969902956801
+-- an eighth root of unity modulo p, 2^24, which stands for ω = e^(iπ/4): its fourth power 2^96 is -1 modulo p
+abbrev pub eighth_root : ℕ
+eighth_root = 16777216
+
+-- its inverse modulo p, which is 2^168
+abbrev pub inverse_eighth_root : ℕ
+inverse_eighth_root = 18446742969902956801
 
 -- the whole number as a natural one, where n stands for -1
 abbrev pub residue : ℕ → ℤ → ℕ

@@ -2,7 +2,7 @@
 ghost use Rattle.std.specs.Prelude.{◌≡◌, ℕ, ◌+◌, ◌%◌, ◌<◌, ◌≤◌, true};
 ghost use Rattle.qz_circ.specs.Circuit.{ActsBelow, HasBelow};
 ghost use Rattle.qz_circ.specs.Exponent.{angle_exponent};
-ghost use Rattle.qz_circ.specs.Paths.{has_bit as bit_of, flipped_state as flip_of};
+ghost use Rattle.qz_circ.specs.Paths.{flipped_state as flip_of};
 ghost use Rattle.qz_finger.specs.declared.actions.Action.TheVariants.{Mix};
 ghost use Rattle.qz_finger.specs.Modulo.{modulus};
 ghost use Rattle.qz_finger.specs.Actions.{acted as acted_on, AreBelow, IsAfter, step_for};
@@ -12,7 +12,7 @@ ghost use Rattle.qz_finger.specs.Tables.{tables_of};
 use crate::fill::filled;
 use crate::modulo::{add, multiply_where, subtract};
 use crate::tables::{Tables, value_of_angle};
-use qz_circ::Op;
+use qz_circ::{Op, flipped_state, has_bit};
 
 /// What a gate does with the values of two places that differ in its target.
 #[derive(Clone, Copy)]
@@ -33,22 +33,6 @@ pub(crate) struct Step {
     pub(crate) action: Action,
     pub(crate) control: u8,
     pub(crate) target: u8,
-}
-
-// Whether a qubit of a place is 1.
-pub(crate) fn has_bit(t: u8, place: usize) -> bool
-    requires { t < 6 }
-    ensures { result ≡ bit_of t place }
-{
-    (place / (1 << t)) % 2 == 1
-}
-
-// The place with a qubit flipped.
-fn flipped_state(t: u8, place: usize) -> usize
-    requires { t < 6 }
-    ensures { result ≡ flip_of t place }
-{
-    place ^ (1 << t)
 }
 
 // The sum, or the difference where the target is 1.

@@ -1,5 +1,5 @@
 //! Lists of numbers that are filled place by place.
-ghost use Rattle.std.specs.Prelude.{◌≡◌, ℕ, ◌<◌, ◌≤◌, slice_index};
+ghost use Rattle.std.specs.Prelude.{ℕ, ◌<◌, ◌≤◌, slice_index};
 ghost use Rattle.qz_finger.specs.Actions.{AreBelow};
 ghost use Rattle.qz_finger.specs.Modulo.{modulus};
 

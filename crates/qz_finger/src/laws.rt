@@ -1,6 +1,5 @@
 //! The law of fingerprints, as the contract of a function with an empty body.
 ghost use Rattle.std.specs.Prelude.{◌≡◌, ℕ};
-ghost use Rattle.std.specs.List.{AllByRecursion};
 ghost use Rattle.qz_circ.specs.Circuit.{Circuit};
 ghost use Rattle.qz_circ.specs.Equivalence.{Equivalent};
 ghost use Rattle.qz_finger.specs.Fingerprint.{fingerprint};

@@ -5,20 +5,29 @@ ghost use Rattle.qz_finger.specs.Modulo.{modulus, minus_one};
 // p
 const P: u64 = 18446744069414584321;
 
+// 2^64
+pub(crate) const TWO_TO_64: u128 = 18446744073709551616;
+
+// What 2^64 is modulo p: 2^32 - 1.
+pub(crate) const TWO_TO_64_MODULO_P: u128 = 4294967295;
+
+// 2^32
+const TWO_TO_32: u128 = 4294967296;
+
 // The number modulo p. Since 2^64 is 2^32 - 1 and 2^96 is -1 modulo p, the upper half is folded into the lower one.
 pub(crate) fn reduce(x: u128) -> u64
     ensures { result ≡ x % modulus }
 {
-    let low = x % 18446744073709551616;
-    let high = x / 18446744073709551616;
-    let middle = high % 4294967296;
-    let top = high / 4294967296;
-    let sum = low + middle * 4294967295 + (18446744069414584321 - top);
-    let folded = sum % 18446744073709551616 + sum / 18446744073709551616 * 4294967295;
-    if folded < 18446744069414584321 {
+    let low = x % TWO_TO_64;
+    let high = x / TWO_TO_64;
+    let middle = high % TWO_TO_32;
+    let top = high / TWO_TO_32;
+    let sum = low + middle * TWO_TO_64_MODULO_P + (P as u128 - top);
+    let folded = sum % TWO_TO_64 + sum / TWO_TO_64 * TWO_TO_64_MODULO_P;
+    if folded < P as u128 {
         folded as u64
     } else {
-        (folded - 18446744069414584321) as u64
+        (folded - P as u128) as u64
     }
 }
 

@@ -10,21 +10,24 @@ use crate::extensions::Extensions;
 use crate::modulo::multiply;
 use crate::sums::{all_sums, sum_with};
 use crate::tables::{Tables, powers, raised_to};
-use crate::values::{Values, halved, identity, size_of};
+use crate::values::{Values, halved, identity};
 use crate::weigh::weigh;
 use crate::words::{parameters, weights};
-use qz_circ::Op;
+use qz_circ::{Op, entries_on};
 use qz_random::generator;
 use std::marker::Model;
 
-// 2^24 stands for ω = e^(iπ/4).
-const EIGHTH: u64 = 16777216;
+// An eighth root of unity modulo p, 2^24, which stands for ω = e^(iπ/4).
+const EIGHTH_ROOT: u64 = 16777216;
 
 // Its inverse modulo p.
-const INVERSE_EIGHTH: u64 = 18446742969902956801;
+const INVERSE_EIGHTH_ROOT: u64 = 18446742969902956801;
 
-// The inverse of 7 modulo p.
-const SEVENTH: u64 = 2635249152773512046;
+// The base whose powers stand for the parameters.
+const PARAMETER_BASE: u64 = 7;
+
+// Its inverse modulo p.
+const INVERSE_PARAMETER_BASE: u64 = 2635249152773512046;
 
 /// The random weights of a seed, for circuits on 1 to 3 qubits. It takes no memory.
 #[derive(Clone, Copy)]
@@ -57,25 +60,25 @@ impl Probe {
         requires { (1 ≤ q) × (q ≤ 3) }
         ensures { result ≡ record { seed = seed; q = q } }
     {
-        let size = size_of(q);
+        let size = entries_on(q);
         let mut rng = generator(seed);
         let value_weights = weights(&mut rng, size);
         let inverse_weights = weights(&mut rng, size);
         let exponents = parameters(&mut rng);
-        let up = raised_to(7, &exponents);
-        let down = raised_to(SEVENTH, &exponents);
+        let up = raised_to(PARAMETER_BASE, &exponents);
+        let down = raised_to(INVERSE_PARAMETER_BASE, &exponents);
         Probe {
             seed,
             q,
             values: Tables {
                 weights: value_weights,
-                eighths: powers(EIGHTH),
+                eighths: powers(EIGHTH_ROOT),
                 up,
                 down,
             },
             inverses: Tables {
                 weights: inverse_weights,
-                eighths: powers(INVERSE_EIGHTH),
+                eighths: powers(INVERSE_EIGHTH_ROOT),
                 up: down,
                 down: up,
             },
@@ -114,7 +117,7 @@ impl Probe {
         requires parameters { HasBelow 3 op }
         ensures { (c : Circuit) → StandsFor self.now c values.now → StandsFor self.now (c ++ op ∷ []) result }
     {
-        let size = size_of(self.q);
+        let size = entries_on(self.q);
         let step = step_of(&self.values, self.q, op);
         let inverse_step = step_of(&self.inverses, self.q, op);
         Values {
@@ -149,7 +152,7 @@ impl Probe {
     fn finger_of(&self, values: &Values) -> u64
         ensures { (c : Circuit) → StandsFor self.now c values.now → result ≡ fingerprint self.now.seed self.now.q c }
     {
-        let size = size_of(self.q);
+        let size = entries_on(self.q);
         let first = weigh(&self.values.weights, 0, &values.values, 0, size);
         let second = weigh(&self.inverses.weights, 0, &values.inverses, 0, size);
         multiply(multiply(first, second), values.scale)

@@ -5,10 +5,9 @@ ghost use Rattle.qz_finger.specs.Actions.{AreBelow};
 ghost use Rattle.qz_finger.specs.Modulo.{modulus, sum_below};
 ghost use Rattle.qz_finger.specs.Rows.{row_sum, number_where as number_of, sum_where};
 
-use crate::actions::has_bit;
 use crate::modulo::{add, reduce};
-use crate::values::rows_on;
 use crate::weigh::weigh;
+use qz_circ::{has_bit, states_on};
 
 // For each row, its weights times the values of the row that differs in these bits, added up.
 pub(crate) fn row_sums(weights: &[u64; 64], values: &[u64; 64], q: u64, bits: usize) -> [u64; 8]
@@ -17,7 +16,7 @@ pub(crate) fn row_sums(weights: &[u64; 64], values: &[u64; 64], q: u64, bits: us
     ensures rows { (i : ℕ) → i < 2 ^ q → slice_index result i ≡ row_sum q weights.now values.now i (bit_xor i bits) % modulus }
     ensures others { (i : ℕ) → 2 ^ q ≤ i → slice_index result i ≡ 0 }
 {
-    let size = rows_on(q);
+    let size = states_on(q);
     let mut sums = [0; 8];
     for i in 0..size {
         sums[i] = weigh(weights, i * size, values, (i ^ bits) * size, size);

@@ -1,5 +1,5 @@
 //! Tables of a probe.
-ghost use Rattle.std.specs.Prelude.{◌≡◌, ◌*◌, ◌^◌, ◌%◌, ◌<◌, slice_index};
+ghost use Rattle.std.specs.Prelude.{◌≡◌, ◌^◌, ◌%◌, slice_index};
 ghost use Rattle.qz_circ.specs.Circuit.{AngleHasBelow};
 ghost use Rattle.qz_circ.specs.Exponent.{angle_exponent};
 ghost use Rattle.qz_finger.specs.Modulo.{modulus};

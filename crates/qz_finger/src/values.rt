@@ -7,7 +7,7 @@ ghost use Rattle.qz_finger.specs.Weights.{entries_on};
 
 use crate::fill::filled;
 use crate::modulo::multiply;
-use qz_circ::Op;
+use qz_circ::{Op, entries_on, states_on};
 use std::marker::Model;
 
 // The inverse of 2 modulo p.
@@ -32,24 +32,6 @@ impl Model for Values {
     ghost invariant = { λ s. AreValueLists (record { values = s.values; inverses = s.inverses; scale = s.scale }) };
 }
 
-// How many rows a matrix on q qubits has.
-pub(crate) fn rows_on(q: u64) -> usize
-    requires { q ≤ 3 }
-    ensures value { result ≡ 2 ^ q }
-    ensures small { result ≤ 8 }
-{
-    1 << q
-}
-
-// How many entries a matrix on q qubits has.
-pub(crate) fn size_of(q: u64) -> usize
-    requires { q ≤ 3 }
-    ensures size { result ≡ entries_on q }
-    ensures small { result ≤ 64 }
-{
-    1 << (q + q)
-}
-
 // The entry of no gate in row i and column j.
 fn entry(i: usize, j: usize) -> u64
     ensures { result ≡ (if i == j then 1 else 0) }
@@ -63,8 +45,8 @@ pub(crate) fn identity(q: u64) -> [u64; 64]
     ensures entries { (k : ℕ) → k < entries_on q → slice_index result k ≡ (if k / 2 ^ q == k % 2 ^ q then 1 else 0) }
     ensures below { AreBelow result }
 {
-    let rows = rows_on(q);
-    filled(size_of(q), |k| entry(k / rows, k % rows))
+    let rows = states_on(q);
+    filled(entries_on(q), |k| entry(k / rows, k % rows))
 }
 
 // A scale, halved where the gate is H.

@@ -2,7 +2,7 @@
 ghost use Rattle.std.specs.Prelude.{◌≡◌, ◌+◌, ◌*◌, ◌%◌, ◌≤◌, slice_index};
 ghost use Rattle.qz_finger.specs.Modulo.{modulus, sum_below};
 
-use crate::modulo::reduce;
+use crate::modulo::{TWO_TO_64, TWO_TO_64_MODULO_P, reduce};
 
 // The weights from one place on times the values from another one on, added up, as many as the size says. The halves of the
 // products are added up apart, so that only one number is brought below p.
@@ -21,8 +21,8 @@ pub(crate) fn weigh(
     let mut high: u128 = 0;
     for k in 0..size {
         let product = weights[first + k] as u128 * values[second + k] as u128;
-        low += product % 18446744073709551616;
-        high += product / 18446744073709551616;
+        low += product % TWO_TO_64;
+        high += product / TWO_TO_64;
     }
-    reduce(low + high * 4294967295)
+    reduce(low + high * TWO_TO_64_MODULO_P)
 }

@@ -1,15 +1,14 @@
 //! What gates make of the entries of a matrix.
-ghost use Rattle.std.specs.Prelude.{◌≡◌, ◌≢◌, ℕ, ◌+◌, ◌*◌, ◌^◌, ◌<◌, ◌≤◌, ◌&&◌, max, nat_lt, length, IfSome, IfOk, OnOk, OnErr};
-ghost use Rattle.qz_ring.specs.Counts.{IsSum, IsDifference};
+ghost use Rattle.std.specs.Prelude.{◌≡◌, ◌≢◌, ℕ, ◌*◌, ◌^◌, ◌<◌, ◌≤◌, ◌&&◌, nat_lt, length, IfSome, IfOk, OnOk, OnErr};
 ghost use Rattle.qz_circ.specs.declared.circuit.Op.TheVariants.{H, X, Cx, Rz};
 ghost use Rattle.qz_circ.specs.Circuit.{ActsBelow, HasBelow, AngleHasBelow};
-ghost use Rattle.qz_ring.specs.Terms.{reach_times, weight_of, largest_reach};
+ghost use Rattle.qz_ring.specs.Terms.{reach_times};
 ghost use Rattle.qz_matrix.specs.Entries.{sum_at, WeightsAtMost, ReachesAtMost};
 ghost use Rattle.qz_matrix.specs.AfterGate.{is_chosen as chosen, read_for, IsClosed, IsExchanged, IsShiftedWhere, IsNext, IsAfterGate};
 
 use crate::angles::exponent_of_angle;
-use crate::states::{flipped_state, has_bit, is_chosen};
-use qz_circ::{Expr, Memory, Op};
+use crate::states::is_chosen;
+use qz_circ::{Expr, Memory, Op, flipped_state, has_bit};
 use qz_ring::{Elem, Exponent};
 use std::alloc::Global;
 
@@ -91,34 +90,8 @@ fn step_rz(entries: &mut [Elem], t: u8, angle: Expr)
     }
 }
 
-// The sum of two entries. Most are zero, whose sum takes no merging.
-fn sum_of(alloc: Global, a: &Elem, b: &Elem) -> Result<Elem, qz_ring::Memory>
-    requires { weight_of a.now + weight_of b.now ≤ 2 ^ 120 }
-    ensures counts { IfOk result (IsSum a.now b.now) }
-    ensures weight { IfOk result (λ sum. weight_of sum ≤ weight_of a.now + weight_of b.now) }
-    ensures reach { IfOk result (λ sum. largest_reach sum ≤ max (largest_reach a.now) (largest_reach b.now)) }
-{
-    if a.is_zero() && b.is_zero() {
-        return Ok(Elem::zero(alloc));
-    }
-    a.plus(b)
-}
-
-// The first entry less the second.
-fn difference_of(alloc: Global, a: &Elem, b: &Elem) -> Result<Elem, qz_ring::Memory>
-    requires { weight_of a.now + weight_of b.now ≤ 2 ^ 120 }
-    ensures counts { IfOk result (IsDifference a.now b.now) }
-    ensures weight { IfOk result (λ difference. weight_of difference ≤ weight_of a.now + weight_of b.now) }
-    ensures reach { IfOk result (λ difference. largest_reach difference ≤ max (largest_reach a.now) (largest_reach b.now)) }
-{
-    if a.is_zero() && b.is_zero() {
-        return Ok(Elem::zero(alloc));
-    }
-    a.minus(b)
-}
-
 // The entry in a place after H on qubit t.
-fn mixed_entry(alloc: Global, entries: &[Elem], t: u8, k: usize) -> Result<Elem, qz_ring::Memory>
+fn mixed_entry(entries: &[Elem], t: u8, k: usize) -> Result<Elem, qz_ring::Memory>
     requires qubit { t < 3 }
     requires place { k < length entries.now }
     requires closed { IsClosed t (length entries.now) }
@@ -128,10 +101,10 @@ fn mixed_entry(alloc: Global, entries: &[Elem], t: u8, k: usize) -> Result<Elem,
     let entry = &entries[k];
     let flipped = &entries[flipped_state(t, k)];
     if has_bit(t, k) {
-        let difference = difference_of(alloc, flipped, entry)?;
+        let difference = flipped.minus(entry)?;
         return Ok(difference);
     }
-    let sum = sum_of(alloc, entry, flipped)?;
+    let sum = entry.plus(flipped)?;
     Ok(sum)
 }
 
@@ -146,7 +119,7 @@ fn mixed(alloc: Global, entries: &[Elem], t: u8) -> Result<Vec<Elem>, Memory>
         return Err(Memory);
     };
     for k in 0..entries.len() {
-        let Ok(entry) = mixed_entry(alloc, entries, t, k) else {
+        let Ok(entry) = mixed_entry(entries, t, k) else {
             return Err(Memory);
         };
         mixed.push_reserved(entry);

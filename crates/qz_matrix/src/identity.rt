@@ -2,8 +2,7 @@
 ghost use Rattle.std.specs.Prelude.{◌≡◌, ◌^◌, ◌≤◌, IfOk};
 ghost use Rattle.qz_matrix.specs.AfterGate.{identity_entry as entry_of, IsIdentity};
 
-use crate::states::size_of;
-use qz_circ::Memory;
+use qz_circ::{Memory, entries_on, states_on};
 use qz_ring::Elem;
 use std::alloc::Global;
 
@@ -23,8 +22,8 @@ pub(crate) fn identity(alloc: Global, q: u64) -> Result<Vec<Elem>, Memory>
     requires { q ≤ 3 }
     ensures { IfOk result (λ v. IsIdentity (2 ^ q) v.items) }
 {
-    let rows: usize = 1 << q;
-    let size = size_of(q);
+    let rows = states_on(q);
+    let size = entries_on(q);
     let Ok(mut entries) = Vec::with_capacity(alloc, size) else {
         return Err(Memory);
     };

@@ -1,5 +1,5 @@
 //! Laws of equivalence and of class lists, each the contract of a function with an empty body.
-ghost use Rattle.std.specs.Prelude.{◌≡◌, ℕ, ◌<◌, false, List, [], ◌∷◌, ◌++◌, ◌+ℤ◌};
+ghost use Rattle.std.specs.Prelude.{◌≡◌, ℕ, false, List, [], ◌∷◌, ◌++◌, ◌+ℤ◌};
 ghost use Rattle.std.specs.List.{AllByRecursion};
 ghost use Rattle.qz_circ.specs.declared.circuit.Inst.{Inst};
 ghost use Rattle.qz_circ.specs.declared.circuit.Op.{Op};

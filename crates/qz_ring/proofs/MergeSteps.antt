@@ -15,7 +15,7 @@ use Rattle.qz_ring.specs.Terms.{Term, Terms, signed, signed_term, part_at, coeff
 use Rattle.qz_ring.specs.Merging.{sum_of_two, IsMerging, IsMerged}
 use Rattle.qz_ring.proofs.Numbers.{unsigned_abs-add, unsigned_abs-signed, signed-add}
 use Rattle.qz_ring.proofs.Sums.{coefficient_at-append, weight_of-append, largest_reach-append}
-use Rattle.qz_ring.proofs.Canonical.{TermBefore, head_normal, canonical_before, canonical_replaced, canonical_without, IsCanonical-split, IsCanonical-join, IsJoin, Keeps, IsCanonical-map}
+use Rattle.qz_ring.proofs.Canonical.{TermBefore, head_normal, canonical_before, canonical_replaced, canonical_without, IsCanonical-nil, IsCanonical-split, IsCanonical-join, IsJoin, Keeps, IsCanonical-map}
 
 -- a sign of 0 is 0
 signed-zero : (n : Bool) → signed n (pos 0) ≡ pos 0
@@ -253,3 +253,15 @@ count-merged n left right merged m e =
   where
     difference : (m m' l l' r r' s : ℤ) → m ≡ l +ℤ r → m' ≡ l' +ℤ r' → r -ℤ r' ≡ s → m -ℤ m' ≡ (l -ℤ l') +ℤ s
     difference m m' l l' r r' s first second third = omega (arith, ints)
+
+-- of no terms, no terms are made
+pub none_merged : (n : Bool) (left right : Terms) → left ≡ [] → right ≡ [] → IsMerged n left right []
+none_merged n left right h k = rw (h, k) (record {
+  canonical = IsCanonical-nil;
+  coefficients = λ e. sym (signed-zero n) ∙ sym (zero_sum (signed n (pos 0)));
+  weight = omega arith;
+  reach = omega arith;
+})
+  where
+    zero_sum : (z : ℤ) → pos 0 +ℤ z ≡ z
+    zero_sum z = omega (arith, ints)

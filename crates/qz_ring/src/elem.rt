@@ -91,12 +91,17 @@ impl Elem {
         self.combined(other, true)
     }
 
-    // The sum of the two, or, where the other is negated, their difference.
+    // The sum of the two, or, where the other is negated, their difference. That of two zeros takes no merging.
+    #[tactic(auto, using(crate::proofs::MergeSteps::none_merged))]
     fn combined(&self, other: &Elem, negated: bool) -> Result<Elem, Memory>
         requires { weight_of self.now + weight_of other.now ≤ 2 ^ 120 }
         ensures { IfOk result (IsMerged negated self.now other.now) }
     {
-        let terms = merge(*self.terms.allocator(), &self.terms, &other.terms, negated)?;
+        let alloc = *self.terms.allocator();
+        if self.is_zero() && other.is_zero() {
+            return Ok(Elem::zero(alloc));
+        }
+        let terms = merge(alloc, &self.terms, &other.terms, negated)?;
         Ok(Elem { terms })
     }
 

@@ -10,6 +10,13 @@ use crate::term::{Term, with_sign};
 use std::alloc::Global;
 use std::cmp::Ordering;
 
+// What a merge has made when one of the lists is used up: the terms so far, and how far it came in each list.
+struct Heads {
+    merged: Vec<Term>,
+    left: usize,
+    right: usize,
+}
+
 // The sum of the two lists, or, where the right one is negated, their difference.
 pub(crate) fn merge(
     alloc: Global,
@@ -22,13 +29,12 @@ pub(crate) fn merge(
     requires weight { weight_of left.now + weight_of right.now ≤ 2 ^ 120 }
     ensures { IfOk result (λ v. IsMerged negated left.now right.now v.items) }
 {
-    let Some(room) = left.len().checked_add(right.len()) else {
-        return Err(Memory);
-    };
-    let Ok(mut merged) = Vec::with_capacity(alloc, room) else {
-        return Err(Memory);
-    };
-    let (i, j) = merge_heads(left, right, negated, &mut merged);
+    let heads = merge_heads(alloc, left, right, negated)?;
+    let Heads {
+        mut merged,
+        left: i,
+        right: j,
+    } = heads;
     if merged.extend_from_slice(&left[i..]).is_err() {
         return Err(Memory);
     }
@@ -36,18 +42,32 @@ pub(crate) fn merge(
     Ok(merged)
 }
 
-// Merges until one of the lists is used up, and tells how far it came in each.
-fn merge_heads(left: &[Term], right: &[Term], negated: bool, out: &mut Vec<Term>) -> (usize, usize)
+// No terms, with room for all those of both lists.
+fn with_room(alloc: Global, left: &[Term], right: &[Term]) -> Result<Vec<Term>, Memory>
+    ensures empty { IfOk result (λ v. v.items ≡ []) }
+    ensures room { IfOk result (λ v. length left.now + length right.now ≤ vec_capacity v) }
+{
+    let Some(room) = left.len().checked_add(right.len()) else {
+        return Err(Memory);
+    };
+    match Vec::with_capacity(alloc, room) {
+        Ok(empty) => Ok(empty),
+        Err(_) => Err(Memory),
+    }
+}
+
+// Merges until one of the lists is used up, with room for all terms of both.
+fn merge_heads(alloc: Global, left: &[Term], right: &[Term], negated: bool) -> Result<Heads, Memory>
     requires left_canonical { IsCanonical left.now }
     requires right_canonical { IsCanonical right.now }
     requires weight { weight_of left.now + weight_of right.now ≤ 2 ^ 120 }
-    requires empty { out.old.items ≡ [] }
-    requires room { length left.now + length right.now ≤ vec_capacity out.old }
-    ensures merging { IsMerging negated left.now right.now out.new.items (drop result.0 left.now) (drop result.1 right.now) }
-    ensures within { (result.0 ≤ length left.now) × (result.1 ≤ length right.now) }
-    ensures used_up { (result.0 ≡ length left.now) ⊎ (result.1 ≡ length right.now) }
-    ensures capacity { vec_capacity out.new ≡ vec_capacity out.old }
+    ensures merging { IfOk result (λ h. IsMerging negated left.now right.now h.merged.items (drop h.left left.now) (drop h.right right.now)) }
+    ensures left_within { IfOk result (λ h. h.left ≤ length left.now) }
+    ensures right_within { IfOk result (λ h. h.right ≤ length right.now) }
+    ensures used_up { IfOk result (λ h. (h.left ≡ length left.now) ⊎ (h.right ≡ length right.now)) }
+    ensures room { IfOk result (λ h. length left.now + length right.now ≤ vec_capacity h.merged) }
 {
+    let mut merged = with_room(alloc, left, right)?;
     let mut i = 0;
     let mut j = 0;
     while i < left.len() && j < right.len() {
@@ -55,21 +75,25 @@ fn merge_heads(left: &[Term], right: &[Term], negated: bool, out: &mut Vec<Term>
         let b = right[j];
         match compare(a.exponent, b.exponent) {
             Ordering::Less => {
-                out.push_reserved(a);
+                merged.push_reserved(a);
                 i += 1;
             }
             Ordering::Greater => {
-                out.push_reserved(with_sign(b, negated));
+                merged.push_reserved(with_sign(b, negated));
                 j += 1;
             }
             Ordering::Equal => {
-                push_both(a, with_sign(b, negated), out);
+                push_both(a, with_sign(b, negated), &mut merged);
                 i += 1;
                 j += 1;
             }
         }
     }
-    (i, j)
+    Ok(Heads {
+        merged,
+        left: i,
+        right: j,
+    })
 }
 
 // Appends the terms, each with the other sign if they are negated.

@@ -11,8 +11,8 @@ use std::marker::Model;
 // A monomial with a whole coefficient.
 #[derive(Clone, Copy, Debug, PartialEq, Eq)]
 pub(crate) struct Term {
-    pub exponent: Exponent,
-    pub coefficient: i128,
+    pub(crate) exponent: Exponent,
+    pub(crate) coefficient: i128,
 }
 
 impl Model for Term {

@@ -10,8 +10,8 @@ use Rattle.qz_finger.proofs.rows.row_sums.Goals as goal
 
 pub weigh-requires-clause-values : goal.weigh-requires-clause-values
 weigh-requires-clause-values c =
-    let size = c.rows_on-size.result in
-    let small = c.rows_on-size.ensures.small in
+    let size = c.states_on-size.result in
+    let small = c.states_on-size.ensures.few in
     let row : bit_xor c.loop-i.i c.args.bits < 2 ^ 3 = xor_lt 3 c.loop-i.i c.args.bits (omega arith) c.requires.bits in
     let next : bit_xor c.loop-i.i c.args.bits + 1 ≤ 8 = omega arith in
     let product : (bit_xor c.loop-i.i c.args.bits + 1) * size ≤ 8 * 8 = mul-le-mul next small in
@@ -21,7 +21,7 @@ pub loop-i-preserved : goal.loop-i-preserved
 unfolding row_sum
 loop-i-preserved c =
     let i = c.loop-i.i in
-    let size = c.rows_on-size.ensures.value in
+    let size = c.states_on-size.ensures.value in
     let w = c.args.weights.now in
     let v = c.args.values.now in
     let l = bit_xor i c.args.bits in

@@ -11,12 +11,12 @@ loop-i-preserved-in-Less c =
     let x = c.index-left-i.result in
     let y = c.index-right-j.result in
     let before = before_read c.a.inside.exponent c.b.inside.exponent x.exponent y.exponent (ap exponent c.a.view_is) (ap exponent c.b.view_is) c.in-Less.ensures in
-    let step = step_left c.args.negated c.args.left.now c.args.right.now c.loop-i.out.items c.loop-i.i c.loop-i.j x y c.loop-i-test.true c.if-j-right.true c.index-left-i.is c.index-right-j.is c.loop-i.invariant.merging before in
+    let step = step_left c.args.negated c.args.left.now c.args.right.now c.loop-i.merged.items c.loop-i.i c.loop-i.j x y c.loop-i-test.true c.if-j-right.true c.index-left-i.is c.index-right-j.is c.loop-i.invariant.merging before in
     record {
       merging = subst (λ (ts : Terms). IsMerging c.args.negated c.args.left.now c.args.right.now ts (drop (c.loop-i.i + 1) c.args.left.now) (drop c.loop-i.j c.args.right.now)) (sym c.push_reserved.ensures.items) step;
       left_within = omega arith;
       right_within = omega arith;
-      capacity = c.push_reserved.ensures.capacity ∙ c.loop-i.invariant.capacity;
+      room = omega (arith, c.push_reserved.ensures.capacity, c.loop-i.invariant.room);
     }
 
 -- the right term comes first
@@ -26,13 +26,13 @@ loop-i-preserved-in-Greater c =
     let x = c.index-left-i.result in
     let y = c.index-right-j.result in
     let before = before_read c.b.inside.exponent c.a.inside.exponent y.exponent x.exponent (ap exponent c.b.view_is) (ap exponent c.a.view_is) c.in-Greater.ensures in
-    let step = step_right c.args.negated c.args.left.now c.args.right.now c.loop-i.out.items c.loop-i.i c.loop-i.j x y c.loop-i-test.true c.if-j-right.true c.index-left-i.is c.index-right-j.is c.loop-i.invariant.merging before in
-    let made = c.push_reserved-in-Greater.ensures.items ∙ ap (λ (t : Term). c.loop-i.out.items ++ t ∷ []) c.with_sign.ensures in
+    let step = step_right c.args.negated c.args.left.now c.args.right.now c.loop-i.merged.items c.loop-i.i c.loop-i.j x y c.loop-i-test.true c.if-j-right.true c.index-left-i.is c.index-right-j.is c.loop-i.invariant.merging before in
+    let made = c.push_reserved-in-Greater.ensures.items ∙ ap (λ (t : Term). c.loop-i.merged.items ++ t ∷ []) c.with_sign.ensures in
     record {
       merging = subst (λ (ts : Terms). IsMerging c.args.negated c.args.left.now c.args.right.now ts (drop c.loop-i.i c.args.left.now) (drop (c.loop-i.j + 1) c.args.right.now)) (sym made) step;
       left_within = omega arith;
       right_within = omega arith;
-      capacity = c.push_reserved-in-Greater.ensures.capacity ∙ c.loop-i.invariant.capacity;
+      room = omega (arith, c.push_reserved-in-Greater.ensures.capacity, c.loop-i.invariant.room);
     }
 
 -- the terms meet
@@ -42,11 +42,11 @@ loop-i-preserved c =
     let x = c.index-left-i.result in
     let y = c.index-right-j.result in
     let same = sym (ap exponent c.a.view_is) ∙ c.in-Equal.ensures ∙ ap exponent c.b.view_is in
-    let step = step_both c.args.negated c.args.left.now c.args.right.now c.loop-i.out.items c.loop-i.i c.loop-i.j x y c.loop-i-test.true c.if-j-right.true c.index-left-i.is c.index-right-j.is c.loop-i.invariant.merging same in
-    let made = c.push_both.ensures.items ∙ ap (λ (t : Term). c.loop-i.out.items ++ sum_of_two x t) c.with_sign-in-Equal.ensures in
+    let step = step_both c.args.negated c.args.left.now c.args.right.now c.loop-i.merged.items c.loop-i.i c.loop-i.j x y c.loop-i-test.true c.if-j-right.true c.index-left-i.is c.index-right-j.is c.loop-i.invariant.merging same in
+    let made = c.push_both.ensures.items ∙ ap (λ (t : Term). c.loop-i.merged.items ++ sum_of_two x t) c.with_sign-in-Equal.ensures in
     record {
       merging = subst (λ (ts : Terms). IsMerging c.args.negated c.args.left.now c.args.right.now ts (drop (c.loop-i.i + 1) c.args.left.now) (drop (c.loop-i.j + 1) c.args.right.now)) (sym made) step;
       left_within = omega arith;
       right_within = omega arith;
-      capacity = c.push_both.ensures.capacity ∙ c.loop-i.invariant.capacity;
+      room = omega (arith, c.push_both.ensures.capacity, c.loop-i.invariant.room);
     }

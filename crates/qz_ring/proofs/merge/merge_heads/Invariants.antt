@@ -4,10 +4,10 @@ use Rattle.qz_ring.proofs.merge.merge_heads.Given as goal
 
 abbrev pub invariant-loop-i : goal.invariant-loop-i
 invariant-loop-i l = record {
-  merging : IsMerging l.negated l.left l.right l.out.items (drop l.i l.left) (drop l.j l.right);
+  merging : IsMerging l.negated l.left l.right l.merged.items (drop l.i l.left) (drop l.j l.right);
   left_within : l.i ≤ length l.left;
   right_within : l.j ≤ length l.right;
-  capacity : vec_capacity l.out ≡ vec_capacity l.initial.out;
+  room : length l.left + length l.right ≤ vec_capacity l.merged;
 }
 
 abbrev pub decreases-loop-i : goal.decreases-loop-i

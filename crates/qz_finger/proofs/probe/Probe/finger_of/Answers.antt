@@ -16,8 +16,8 @@ returns c = λ circuit stands.
     let s : ValueLists = record { values = c.values.inside.values; inverses = c.values.inside.inverses; scale = c.values.inside.scale } in
     let before : StandsFor p circuit s =
     subst (λ (x : ValueLists). StandsFor p circuit x) (sym c.values.view_is) (subst (λ (x : ProbeParts). StandsFor x circuit c.args.values.now) (sym c.self.view_is) stands) in
-    let size = c.size_of-size.ensures.size in
-    let few : entries_on q ≤ 64 = omega (arith, c.size_of-size.ensures.small, size) in
+    let size = c.entries_on-size.ensures.value in
+    let few : entries_on q ≤ 64 = omega (arith, c.entries_on-size.ensures.few, size) in
     let weights = value_weights seed q c.self.inside.values c.self.invariant.values in
     let inverses = inverse_weights seed q c.self.inside.inverses c.self.invariant.inverses in
     let first = c.weigh-first.ensures ∙ (λ d. sum_below (λ k. slice_index (weights d) (zero-add k d) * slice_index s.values (zero-add k d)) (size d) % modulus) in

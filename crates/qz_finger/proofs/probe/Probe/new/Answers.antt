@@ -8,8 +8,8 @@ pub invariant_of-result : goal.invariant_of-result
 invariant_of-result c =
     let seed = c.args.seed in
     let q = c.args.q in
-    let n = c.size_of-size.result in
-    let size = c.size_of-size.ensures.size in
+    let n = c.entries_on-size.result in
+    let size = c.entries_on-size.ensures.value in
     let first = c.weights-value_weights.ensures.value seed 0 c.generator-rng.ensures in
     let after_first = c.weights-value_weights.ensures.after seed 0 c.generator-rng.ensures in
     let second = c.weights-inverse_weights.ensures.value seed (0 + n) after_first in

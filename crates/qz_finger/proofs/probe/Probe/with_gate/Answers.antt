@@ -12,10 +12,10 @@ use Rattle.qz_finger.proofs.StandsLemmas.{after_as, stands_more}
 use Rattle.qz_finger.proofs.probe.Probe.with_gate.Goals as goal
 
 pub after-requires-clause-closed : goal.after-requires-clause-closed
-after-requires-clause-closed c = λ k. closed c.self.inside.q c.step_of-step.result.target c.size_of-size.result k c.step_of-step.ensures.target c.size_of-size.ensures.size
+after-requires-clause-closed c = λ k. closed c.self.inside.q c.step_of-step.result.target c.entries_on-size.result k c.step_of-step.ensures.target c.entries_on-size.ensures.value
 
 pub after-requires-2-clause-closed : goal.after-requires-2-clause-closed
-after-requires-2-clause-closed c = λ k. closed c.self.inside.q c.step_of-inverse_step.result.target c.size_of-size.result k c.step_of-inverse_step.ensures.target c.size_of-size.ensures.size
+after-requires-2-clause-closed c = λ k. closed c.self.inside.q c.step_of-inverse_step.result.target c.entries_on-size.result k c.step_of-inverse_step.ensures.target c.entries_on-size.ensures.value
 
 pub returns : goal.returns
 returns c = λ circuit stands.
@@ -30,6 +30,6 @@ returns c = λ circuit stands.
     subst (λ (s : ValueLists). StandsFor p circuit s) (sym c.values.view_is) (subst (λ (x : ProbeParts). StandsFor x circuit c.args.values.now) (sym c.self.view_is) stands) in
     let step = c.step_of-step.ensures.step (bases_of seed q) (value_bases seed q c.self.inside.values c.self.invariant.values) in
     let inverse_step = c.step_of-inverse_step.ensures.step (inverted (bases_of seed q)) (inverse_bases seed q c.self.inside.inverses c.self.invariant.inverses) in
-    let first = after_as c.step_of-step.result (step_for q (λ e. value (bases_of seed q) (angle_exponent e) % modulus) op) c.size_of-size.result (entries_on q) old.values new.values step c.size_of-size.ensures.size c.after.ensures.after in
-    let second = after_as c.step_of-inverse_step.result (step_for q (λ e. value (inverted (bases_of seed q)) (angle_exponent e) % modulus) op) c.size_of-size.result (entries_on q) old.inverses new.inverses inverse_step c.size_of-size.ensures.size c.after-2.ensures.after in
+    let first = after_as c.step_of-step.result (step_for q (λ e. value (bases_of seed q) (angle_exponent e) % modulus) op) c.entries_on-size.result (entries_on q) old.values new.values step c.entries_on-size.ensures.value c.after.ensures.after in
+    let second = after_as c.step_of-inverse_step.result (step_for q (λ e. value (inverted (bases_of seed q)) (angle_exponent e) % modulus) op) c.entries_on-size.result (entries_on q) old.inverses new.inverses inverse_step c.entries_on-size.ensures.value c.after-2.ensures.after in
     subst (λ (x : ProbeParts). StandsFor x (circuit ++ op ∷ []) new) c.self.view_is (stands_more p circuit op old new acts before first second c.halved.ensures)

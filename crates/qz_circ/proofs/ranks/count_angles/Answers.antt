@@ -1,6 +1,0 @@
-use Rattle.std.proofs.Common.{sym}
-use Rattle.qz_circ.proofs.GateNumbers.{angle_table}
-use Rattle.qz_circ.proofs.ranks.count_angles.Goals as goal
-
-pub returns-clause-count : goal.returns-clause-count
-returns-clause-count c = rw c.saturating_sub.ensures (sym (angle_table c.args.m c.requires).count)

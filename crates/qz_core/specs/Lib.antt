@@ -1,0 +1,2 @@
+pub mod HeldRound
+pub mod RoundMachine
