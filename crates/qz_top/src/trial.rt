@@ -8,7 +8,7 @@ ghost use Rattle.qz_circ.specs.Joined.{circuits_of_ranks};
 ghost use Rattle.qz_circ.specs.Lines.{line};
 ghost use Rattle.qz_circ.specs.ProgramCircuits.{IsProgramGate};
 ghost use Rattle.qz_io.specs.Transfers.{Input};
-ghost use Rattle.qz_top.specs.Answer.{Storage, IsCalm, output_of, IsCarriedOut};
+ghost use Rattle.qz_top.specs.Answer.{Storage, IsCalm, sink_shown, IsCarriedOut};
 ghost use Rattle.qz_random.specs.RandomWords.{generator_after};
 ghost use Rattle.qz_top.specs.Status.{WritesNothing};
 ghost use Rattle.qz_top.specs.Trial.{controlled, gate_of_kind, trial_gate, trial_circuit, trial_limits, trial_plan, AreTrialClasses, IsTrialFound, summary, IsTrialText, Tries};
@@ -199,7 +199,7 @@ pub(crate) fn trial<O: Sink>(
     requires short { gates ≤ 20000 }
     // Whatever the input and the shelf are, as long as they have no fault.
     ensures carried_out { (input : Input) (shelf : Storage) → input.faults_after ≡ input.faults_before → IsCalm shelf → IsCarriedOut (λ given. Tries seed qubits gates) result
-        (record { input = input; shelf = shelf; out = output_of O.written O.faults O.answers_faults out.old out.new }) }
+        (record { input = input; shelf = shelf; out = sink_shown O.Sink out.old out.new }) }
     ensures begun { WritesNothing result → ⊥ }
     ensures faults { O.faults out.old ≤ O.faults out.new }
     ensures wants { O.wants out.old ≤ O.wants out.new }
