@@ -42,14 +42,8 @@ returns-in-Tidy-clause-read_fault g c = λ _. rw c.in-Tidy.is tt
 pub returns-in-Tidy-clause-before : goal.returns-in-Tidy-clause-before
 returns-in-Tidy-clause-before g c = λ b. absurd (c.tidy.ensures.late b)
 
-pub trial-requires-clause-some : goal.trial-requires-clause-some
-trial-requires-clause-some g c = (subst IsLawfulCommand c.in-Trial.is c.requires.lawful).some
-
-pub trial-requires-clause-few : goal.trial-requires-clause-few
-trial-requires-clause-few g c = (subst IsLawfulCommand c.in-Trial.is c.requires.lawful).few
-
-pub trial-requires-clause-short : goal.trial-requires-clause-short
-trial-requires-clause-short g c = (subst IsLawfulCommand c.in-Trial.is c.requires.lawful).short
+pub trial-requires : goal.trial-requires
+trial-requires g c = subst IsLawfulCommand c.in-Trial.is c.requires.lawful
 
 pub returns-in-Trial-clause-carried_out : goal.returns-in-Trial-clause-carried_out
 returns-in-Trial-clause-carried_out g c =
