@@ -1,5 +1,5 @@
 //! The command that generates the rules of some bounds.
-ghost use Rattle.std.specs.Prelude.{◌≡◌, ◌≢◌, ◌≤◌, IsTrue, Option, None, IfOk, IfSome};
+ghost use Rattle.std.specs.Prelude.{◌≡◌, ◌≢◌, ◌≤◌, IsTrue, None, IfOk, IfSome};
 ghost use Rattle.qz_io.specs.Transfers.{Input};
 ghost use Rattle.qz_repgen.specs.Reports.{IsReport};
 ghost use Rattle.qz_top.specs.Answer.{Storage, IsCalm, sink_shown, IsCarriedOut};
