@@ -2,7 +2,7 @@ use Rattle.std.proofs.Common.{◌≡◌, ◌*◌, map}
 use Rattle.qz_circ.specs.Circuit.{below}
 use Rattle.qz_random.specs.RandomWords.{generator_after}
 use Rattle.qz_top.specs.Trial.{trial_gate}
-use Rattle.qz_top.proofs.trial.made.Given as goal
+use Rattle.qz_top.proofs.trial.trial_circuit.Given as goal
 
 abbrev pub invariant-loop-k : goal.invariant-loop-k
 invariant-loop-k l = record {

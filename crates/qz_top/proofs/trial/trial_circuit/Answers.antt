@@ -4,7 +4,7 @@ use Rattle.std.proofs.lemmas.List.FromFn.{map-range_with_len_more}
 use Rattle.qz_circ.specs.ProgramCircuits.{ProgramCircuit, IsProgramGate}
 use Rattle.qz_top.specs.Trial.{trial_gate}
 use Rattle.qz_top.proofs.TrialLemmas.{trial_gates_fit}
-use Rattle.qz_top.proofs.trial.made.Goals as goal
+use Rattle.qz_top.proofs.trial.trial_circuit.Goals as goal
 
 pub loop-k-preserved : goal.loop-k-preserved
 loop-k-preserved c =
