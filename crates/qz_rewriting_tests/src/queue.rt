@@ -57,10 +57,8 @@ fn merges_another(alloc: Global) -> Option<bool> {
     let other = queue_with(alloc, &[Inst::X(0)])?;
     queue.merge(other);
     let full = queue.len() == 2 && is_best(&queue, &[Inst::H(0)]) && is_closed(&queue);
-    let all = queue.take_batch(2).ok()?;
-    let both = all.len() == 2
-        && all[0].as_slice() == [Inst::H(0)]
-        && all[1].as_slice() == [Inst::X(0)];
+    let first = queue.take_batch(1).ok()?;
+    let both = first.len() == 1 && is_best(&queue, &[Inst::X(0)]);
     Some(full && both)
 }
 
