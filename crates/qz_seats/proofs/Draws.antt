@@ -14,7 +14,7 @@ use Rattle.qz_seats.proofs.Sums.{sum-set, one_le}
 use Rattle.qz_seats.proofs.Changes.{IsPast, IsWithin, at_limit, below_more, below_one, below_self, named_at, quiet}
 
 -- a pass fits after a draw of the counter
-draw_fits : (t : Terms) (c : ℕ) (rest : ℕ → List ℕ) (v : View) → 0 < v.shares → v.terms ≡ t → v.ended ≡ false → Fits t c rest v
+pub draw_fits : (t : Terms) (c : ℕ) (rest : ℕ → List ℕ) (v : View) → 0 < v.shares → v.terms ≡ t → v.ended ≡ false → Fits t c rest v
     → (drawing v c).ended ≡ nat_le t.limit c → draws_past t.limit (drawing v c) ≡ draws_past t.limit v + cond (nat_le t.limit c) 1 0
     → IsPast t.limit c v.shares ⊎ IsWithin t.limit c v.shares → Fits t (c + 1) rest (drawing v c)
 draw_fits t c rest v live same going fit ended past at = record {
@@ -34,7 +34,7 @@ draw_fits t c rest v live same going fit ended past at = record {
     differ e = cc
 
 module _ {V : Type 0} (J N M : V → List ℕ) (t : Terms) where
-  pub draws_keep : (slots id : ℕ) (me : Me (Option V) View) → IsLawful t → 0 < me.0.shares → me.0.ended ≡ false
+  unfoldable pub draws_keep : (slots id : ℕ) (me : Me (Option V) View) → IsLawful t → 0 < me.0.shares → me.0.ended ≡ false
       → Allows (IsRuled J N M t) slots id me 0 (λ n. (n + 1) % 2 ^ 64) (IsDraw me)
   draws_keep slots id me lawful live going s r long at small =
       let v : View = me.0 in

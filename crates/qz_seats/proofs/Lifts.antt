@@ -35,7 +35,7 @@ entered_le i x v = less_all (λ (r : ReceiptParts). cond ((r.shard == i) && (r.i
     part false false = omega arith
 
 -- a pass fits after it took value i
-taking_fits : (t : Terms) (c : ℕ) (rest : ℕ → List ℕ) (v : View) (i : ℕ) (j : List ℕ) → 0 < v.shares → i < count_of t → j ≡ journal_of t rest i → Fits t c rest v → Fits t c rest (taking v i j)
+pub taking_fits : (t : Terms) (c : ℕ) (rest : ℕ → List ℕ) (v : View) (i : ℕ) (j : List ℕ) → 0 < v.shares → i < count_of t → j ≡ journal_of t rest i → Fits t c rest v → Fits t c rest (taking v i j)
 taking_fits t c rest v i j live inside journal fit = record {
   live = fit.live;
   spent = λ e. absurd (omega arith);
@@ -49,7 +49,7 @@ taking_fits t c rest v i j live inside journal fit = record {
     same : (h : ℕ × List ℕ) → Some (i, j) ≡ Some h → (i, j) ≡ h
     same h e = cc
 
-losing_fits : (t : Terms) (c : ℕ) (rest : ℕ → List ℕ) (v : View) → 0 < v.shares → Fits t c rest v → Fits t c rest (losing v)
+pub losing_fits : (t : Terms) (c : ℕ) (rest : ℕ → List ℕ) (v : View) → 0 < v.shares → Fits t c rest v → Fits t c rest (losing v)
 losing_fits t c rest v live fit = record {
   live = fit.live;
   spent = λ e. absurd (omega arith);
@@ -67,7 +67,7 @@ module _ {V : Type 0} (J N M : V → List ℕ) (t : Terms) where
       alone f (λ u. u.shares) s.views id v (λ j u there spent. subst (λ (w : View). f w ≡ 0) (sym ((r.fits j u there).spent spent)) empty) at (r.shares ∙ sym all)
 
   -- the journal of a value at home is as a pass knows it
-  home_lifted : (s : State (Option V) View) (r : IsRuled J N M t s) (id i : ℕ) (v : View) (journal : List ℕ) → get_elem? s.views id ≡ some v → v.terms ≡ t → i < count_of t → journal ≡ journal_of t r.rest i → IsLifted v i journal
+  pub home_lifted : (s : State (Option V) View) (r : IsRuled J N M t s) (id i : ℕ) (v : View) (journal : List ℕ) → get_elem? s.views id ≡ some v → v.terms ≡ t → i < count_of t → journal ≡ journal_of t r.rest i → IsLifted v i journal
   home_lifted s r id i v journal at same inside is = record {
     after = r.rest i;
     begins = is ∙ ap (λ (u : Terms). opening_of u i ++ r.rest i) (sym same);
@@ -87,7 +87,7 @@ module _ {V : Type 0} (J N M : V → List ℕ) (t : Terms) where
       fit = r.fits id v at
 
   -- value i was at home
-  lift_won : (id i : ℕ) (me : Me (Option V) View) → 0 < me.0.shares → me.0.held ≡ None → i < count_of t → (s : State (Option V) View) → IsRuled J N M t s → get_elem? s.views id ≡ some me.0 → slice_index s.words (i + 1) ≡ 0
+  unfoldable pub lift_won : (id i : ℕ) (me : Me (Option V) View) → 0 < me.0.shares → me.0.held ≡ None → i < count_of t → (s : State (Option V) View) → IsRuled J N M t s → get_elem? s.views id ≡ some me.0 → slice_index s.words (i + 1) ≡ 0
       → (w : View) × (a : Act (Option V)) × Valid s.homes me.1 a × IsRuled J N M t (stepped s (i + 1) 1 id me.1 w a) × IsLift J N M (i + 1) me (slice_index s.words (i + 1)) (w, carried_after me.1 a)
   lift_won id i me live free inside s r at home_word =
       let v : View = me.0 in
@@ -129,7 +129,7 @@ module _ {V : Type 0} (J N M : V → List ℕ) (t : Terms) where
       )
 
   -- value i was out
-  lift_lost : (id i : ℕ) (me : Me (Option V) View) → 0 < me.0.shares → me.0.held ≡ None → i < count_of t → (s : State (Option V) View) → IsRuled J N M t s → get_elem? s.views id ≡ some me.0 → slice_index s.words (i + 1) ≢ 0
+  unfoldable pub lift_lost : (id i : ℕ) (me : Me (Option V) View) → 0 < me.0.shares → me.0.held ≡ None → i < count_of t → (s : State (Option V) View) → IsRuled J N M t s → get_elem? s.views id ≡ some me.0 → slice_index s.words (i + 1) ≢ 0
       → (w : View) × (a : Act (Option V)) × Valid s.homes me.1 a × IsRuled J N M t (stepped s (i + 1) (slice_index s.words (i + 1)) id me.1 w a) × IsLift J N M (i + 1) me (slice_index s.words (i + 1)) (w, carried_after me.1 a)
   lift_lost id i me live free inside s r at found =
       let v : View = me.0 in

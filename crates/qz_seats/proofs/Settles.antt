@@ -20,10 +20,10 @@ use Rattle.qz_seats.proofs.Values.{touch, lock_held, held_once}
 use Rattle.qz_seats.proofs.Lifts.{other_held, this_held}
 use Rattle.qz_seats.proofs.Passes.{front, some_same}
 
-none-some : (h : ℕ × List ℕ) → None ≡ Some h → ⊥
+pub none-some : (h : ℕ × List ℕ) → None ≡ Some h → ⊥
 none-some h e = cc
 
-giving_fits : (t : Terms) (c : ℕ) (rest : ℕ → List ℕ) (v : View) → 0 < v.shares → Fits t c rest v → Fits t c rest (giving v)
+pub giving_fits : (t : Terms) (c : ℕ) (rest : ℕ → List ℕ) (v : View) → 0 < v.shares → Fits t c rest v → Fits t c rest (giving v)
 giving_fits t c rest v live fit = record {
   live = fit.live;
   spent = λ e. absurd (omega arith);
@@ -40,23 +40,23 @@ longer_at [] ys p x e = absurd (cc)
 longer_at (y ∷ xs) ys zero x e = e
 longer_at (y ∷ xs) ys (suc p) x e = longer_at xs ys p x e
 
-at_end : (xs : List ℕ) (x : ℕ) → slice_get (xs ++ x ∷ []) (length xs) ≡ Some x
+pub at_end : (xs : List ℕ) (x : ℕ) → slice_get (xs ++ x ∷ []) (length xs) ≡ Some x
 at_end [] x = refl
 at_end (y ∷ xs) x = at_end xs x
 
 -- the lists with one entry more in that of value i
-longer : (ℕ → List ℕ) → ℕ → ℕ → ℕ → List ℕ
+pub longer : (ℕ → List ℕ) → ℕ → ℕ → ℕ → List ℕ
 longer rest i x k = cond (eqb k i) (rest k ++ x ∷ []) (rest k)
 
-longer_here : (rest : ℕ → List ℕ) (i x : ℕ) → longer rest i x i ≡ rest i ++ x ∷ []
+pub longer_here : (rest : ℕ → List ℕ) (i x : ℕ) → longer rest i x i ≡ rest i ++ x ∷ []
 unfolding longer
 longer_here rest i x = ap (λ b. cond b (rest i ++ x ∷ []) (rest i)) (eq-eqb i i refl)
 
-longer_else : (rest : ℕ → List ℕ) (i x k : ℕ) → k ≢ i → longer rest i x k ≡ rest k
+pub longer_else : (rest : ℕ → List ℕ) (i x k : ℕ) → k ≢ i → longer rest i x k ≡ rest k
 unfolding longer
 longer_else rest i x k apart = ap (λ b. cond b (rest k ++ x ∷ []) (rest k)) (ne_eqb k i apart)
 
-longer_journal : (t : Terms) (rest : ℕ → List ℕ) (i x : ℕ) → journal_of t (longer rest i x) i ≡ journal_of t rest i ++ x ∷ []
+pub longer_journal : (t : Terms) (rest : ℕ → List ℕ) (i x : ℕ) → journal_of t (longer rest i x) i ≡ journal_of t rest i ++ x ∷ []
 longer_journal t rest i x = ap (λ xs. opening_of t i ++ xs) (longer_here rest i x) ∙ sym (append_assoc (opening_of t i) (rest i) (x ∷ []))
 
 longer_stands : (t : Terms) (rest : ℕ → List ℕ) (i x k p y : ℕ) → slice_get (journal_of t rest k) p ≡ Some y → slice_get (journal_of t (longer rest i x) k) p ≡ Some y
@@ -68,7 +68,7 @@ longer_stands t rest i x k p y at =
     (λ ne. subst (λ xs. slice_get (opening_of t k ++ xs) p ≡ Some y) (sym (longer_else rest i x k ne)) at)
 
 -- a pass that does not hold value i fits where the value has one entry more
-longer_fits : (t : Terms) (c : ℕ) (rest : ℕ → List ℕ) (i x : ℕ) (v : View) → ((h : ℕ × List ℕ) → v.held ≡ Some h → h.0 ≢ i) → Fits t c rest v → Fits t c (longer rest i x) v
+pub longer_fits : (t : Terms) (c : ℕ) (rest : ℕ → List ℕ) (i x : ℕ) (v : View) → ((h : ℕ × List ℕ) → v.held ≡ Some h → h.0 ≢ i) → Fits t c rest v → Fits t c (longer rest i x) v
 longer_fits t c rest i x v other fit = record {
   live = fit.live;
   spent = fit.spent;
@@ -80,7 +80,7 @@ longer_fits t c rest i x v other fit = record {
 }
 
 -- a pass fits after it got a receipt for a name that it has drawn
-adding_fits : (t : Terms) (c : ℕ) (rest : ℕ → List ℕ) (v : View) (r : ReceiptParts) → 0 < v.shares → AreDifferent t.names
+pub adding_fits : (t : Terms) (c : ℕ) (rest : ℕ → List ℕ) (v : View) (r : ReceiptParts) → 0 < v.shares → AreDifferent t.names
     → r.shard < count_of t → slice_get (journal_of t rest r.shard) r.place ≡ Some r.item
     → (t.names ≢ [] → ((d : ℕ) × (slice_get t.names d ≡ Some r.item) × (0 < draws d v)) × (with_item r.item v ≡ 0))
     → Fits t c rest v → Fits t c rest (adding v r)
@@ -108,12 +108,12 @@ adding_fits t c rest v r live apart inside stands name fit = record {
 }
 
 -- the place after the last one is the next
-place_more : (i p a n : ℕ) → between p a (a + n) + cond ((i == i) && ((a + n) == p)) 1 0 ≡ between p a (a + (n + 1))
+pub place_more : (i p a n : ℕ) → between p a (a + n) + cond ((i == i) && ((a + n) == p)) 1 0 ≡ between p a (a + (n + 1))
 place_more i p a n = grind (arith, nat_tests)
 
 module _ {V : Type 0} (J N M : V → List ℕ) (t : Terms) where
   -- a value goes home with the journal that it had
-  pub same_keeps : (slots id i : ℕ) (v : View) (value : V) → 0 < v.shares → v.held ≡ Some (i, J value) → IsAt J N M v.terms i (J value) value
+  unfoldable pub same_keeps : (slots id i : ℕ) (v : View) (value : V) → 0 < v.shares → v.held ≡ Some (i, J value) → IsAt J N M v.terms i (J value) value
       → Allows (IsRuled J N M t) slots id (v, (i, Some value) ∷ []) (i + 1) (λ _. 0) (λ _. IsSettleSame (v, (i, Some value) ∷ []))
   same_keeps slots id i v value live held at s r long here small =
       let w : View = giving v in
@@ -150,7 +150,7 @@ module _ {V : Type 0} (J N M : V → List ℕ) (t : Terms) where
       )
 
   -- a value goes home with one entry more
-  pub one_keeps : (slots id i : ℕ) (v : View) (value : V) (lifted : List ℕ) (entry : ℕ) → AreDifferent t.names → 0 < v.shares → v.held ≡ Some (i, lifted) → IsAt J N M v.terms i (lifted ++ entry ∷ []) value
+  unfoldable pub one_keeps : (slots id i : ℕ) (v : View) (value : V) (lifted : List ℕ) (entry : ℕ) → AreDifferent t.names → 0 < v.shares → v.held ≡ Some (i, lifted) → IsAt J N M v.terms i (lifted ++ entry ∷ []) value
       → (v.terms.names ≢ [] → ((d : ℕ) × (slice_get v.terms.names d ≡ Some entry) × (0 < draws d v)) × (with_item entry v ≡ 0))
       → Allows (IsRuled J N M t) slots id (v, (i, Some value) ∷ []) (i + 1) (λ _. 0) (λ _. IsSettleOne J (v, (i, Some value) ∷ []))
   one_keeps slots id i v value lifted entry apart live held at name s r long here small =

@@ -1,0 +1,5 @@
+use Rattle.qz_store.proofs.Showing.{join_is_none}
+use Rattle.qz_store.proofs.laws.a_join_is_no_event.Goals as goal
+
+pub returns : goal.returns
+returns g c = join_is_none g.V.Journal.journal g.V.Journal.names g.V.Journal.mark

@@ -1,0 +1,4 @@
+//! The shared store of a round.
+#![tactic(auto)]
+
+pub mod laws;
