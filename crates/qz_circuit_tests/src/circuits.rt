@@ -69,37 +69,35 @@ fn number_of(gate: Op, b: Bounds) -> Option<u64> {
 #[test]
 fn ranks_two_gates_on_one_qubit(rt: HostRuntime) -> Result<(), Fail> {
     let b = bounds(2, 1, 0)?;
-    assert_eq!(rt; sizes(b), [2, 1, 0, 9, 91]);
+    assert!(rt; sizes(b) == [2, 1, 0, 9, 91]);
     let first = Op::Rz(0, Expr::Const(1));
     let last = Op::Rz(0, Expr::Const(7));
-    assert_eq!(rt; rank_of(&[Op::X(0), first], b), Some(21));
-    assert_eq!(rt; rank_of(&[first, first, first], b), None);
-    assert_eq!(rt; length_at(21, b), Some(2));
-    assert_eq!(rt; parts_at(21, b), Some([3, 2]));
-    assert_eq!(rt; parts_at(9, b), Some([0, 0]));
+    assert!(rt; rank_of(&[Op::X(0), first], b) == Some(21));
+    assert!(rt; rank_of(&[first, first, first], b).is_none());
+    assert!(rt; length_at(21, b) == Some(2));
+    assert!(rt; parts_at(21, b) == Some([3, 2]));
+    assert!(rt; parts_at(9, b) == Some([0, 0]));
     assert!(rt; is_circuit_at(rt.alloc(), 90, b, &[last, last]));
-    Ok(())
-}
-
-#[test]
-fn numbers_the_gates_on_one_qubit(rt: HostRuntime) -> Result<(), Fail> {
-    let b = bounds(2, 1, 0)?;
-    let last = Op::Rz(0, Expr::Const(7));
     assert!(rt; gate_at(8, b) == Some(last));
     assert!(rt; gate_at(9, b).is_none());
-    assert_eq!(rt; number_of(last, b), Some(8));
-    assert_eq!(rt; number_of(Op::H(1), b), None);
+    assert!(rt; number_of(last, b) == Some(8));
+    assert!(rt; number_of(Op::H(1), b).is_none());
     Ok(())
 }
 
 #[test]
 fn bounds_are_refused_in_order(rt: HostRuntime) {
-    assert_eq!(rt; refusal(4, 3, 2), None);
-    assert_eq!(rt; refusal(6, 1, 2), None);
-    assert_eq!(rt; refusal(5, 2, 2), Some(LimitFault::Circuits));
-    assert_eq!(rt; refusal(7, 1, 0), Some(LimitFault::Gates));
-    assert_eq!(rt; refusal(1, 1, 4), Some(LimitFault::Params));
-    assert_eq!(rt; refusal(9, 4, 9), Some(LimitFault::Qubits));
+    let rows = [
+        ([4, 3, 2], None),
+        ([6, 1, 2], None),
+        ([5, 2, 2], Some(LimitFault::Circuits)),
+        ([7, 1, 0], Some(LimitFault::Gates)),
+        ([1, 1, 4], Some(LimitFault::Params)),
+        ([9, 4, 9], Some(LimitFault::Qubits)),
+    ];
+    for ([n, q, m], fault) in rows {
+        assert!(rt; refusal(n, q, m) == fault);
+    }
 }
 
 fn no_classes(alloc: Global, b: Bounds) -> Classes {
@@ -124,12 +122,12 @@ fn is_class(classes: &Classes, i: u64, wanted: &[u64]) -> bool {
 fn classes_keep_their_lists(rt: HostRuntime) -> Result<(), Fail> {
     let b = bounds(2, 1, 0)?;
     let mut classes = no_classes(rt.alloc(), b);
-    assert_eq!(rt; classes.len(), 0);
+    assert!(rt; classes.len() == 0);
     push_one(&rt, &mut classes, 90)?;
     push_none(&mut classes)?;
-    assert_eq!(rt; classes.len(), 2);
+    assert!(rt; classes.len() == 2);
     assert!(rt; is_class(&classes, 0, &[90]));
     assert!(rt; is_class(&classes, 1, &[]));
-    assert_eq!(rt; classes.bounds(), b);
+    assert!(rt; classes.bounds() == b);
     Ok(())
 }

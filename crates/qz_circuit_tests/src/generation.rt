@@ -1,6 +1,6 @@
 //! Candidates and class lists.
 
-use qz_circ::{Bounds, Classes, Memory, Report};
+use qz_circ::{Bounds, Classes, Memory};
 use qz_repgen::laws::first_ranks_are_of_one_length;
 use qz_repgen::{candidates, generate_one};
 use std::alloc::Global;
@@ -27,9 +27,16 @@ fn classes_of(alloc: Global, b: Bounds) -> Result<Classes, Memory> {
     Ok(classes)
 }
 
-fn report_of(alloc: Global, b: Bounds, seed: u64) -> Result<Report, Memory> {
+// The counts of the report: circuits that are extended, kept circuits, classes, members and fingerprints.
+fn counts_of(alloc: Global, b: Bounds, seed: u64) -> Result<[u64; 5], Memory> {
     let (_, report) = generate_one(alloc, b, seed)?;
-    Ok(report)
+    Ok([
+        report.extended,
+        report.kept,
+        report.classes,
+        report.members,
+        report.prints,
+    ])
 }
 
 // How many classes there are, and how many members they have together.
@@ -57,62 +64,26 @@ fn candidates_of_no_gate_are_all_gates(rt: HostRuntime) -> Result<(), Fail> {
 
 // The numbers of classes, and of their members, as an outside program counted them by numeric matrices.
 #[test]
-fn class_lists_on_one_qubit_have_their_sizes(rt: HostRuntime) -> Result<(), Fail> {
-    let alloc = rt.alloc();
-    let two_gates = classes_of(alloc, Bounds::new(2, 1, 0)?)?;
-    assert!(rt; sizes(&two_gates) == [17, 77], "two gates");
-    let three_gates = classes_of(alloc, Bounds::new(3, 1, 0)?)?;
-    assert!(rt; sizes(&three_gates) == [31, 105], "three gates");
-    Ok(())
-}
-
-#[test]
-fn the_class_list_on_two_qubits_has_its_size(rt: HostRuntime) -> Result<(), Fail> {
-    let classes = classes_of(rt.alloc(), Bounds::new(3, 2, 0)?)?;
-    assert!(rt; sizes(&classes) == [331, 773], "three gates");
+fn class_lists_have_their_sizes(rt: HostRuntime) -> Result<(), Fail> {
+    for (n, q, wanted) in [(2, 1, [17, 77]), (3, 1, [31, 105]), (3, 2, [331, 773])] {
+        let classes = classes_of(rt.alloc(), Bounds::new(n, q, 0)?)?;
+        assert!(rt; sizes(&classes) == wanted);
+    }
     Ok(())
 }
 
 // Numbers that were worked out by hand and by an outside program. None of these circuits that are inequivalent share a fingerprint.
 #[test]
 fn reports_count_circuits_and_fingerprints(rt: HostRuntime) -> Result<(), Fail> {
-    let alloc = rt.alloc();
-    let two_gates = Report {
-        extended: 90,
-        kept: 91,
-        classes: 17,
-        members: 77,
-        prints: 31,
-    };
-    assert!(rt;
-        report_of(alloc, Bounds::new(2, 1, 0)?, 0)? == two_gates,
-        "no parameter"
-    );
-    assert!(rt;
-        report_of(alloc, Bounds::new(2, 1, 0)?, 1)? == two_gates,
-        "another seed"
-    );
-    let with_parameter = Report {
-        extended: 132,
-        kept: 133,
-        classes: 33,
-        members: 111,
-        prints: 55,
-    };
-    assert!(rt;
-        report_of(alloc, Bounds::new(2, 1, 1)?, 0)? == with_parameter,
-        "a parameter"
-    );
-    let two_qubits = Report {
-        extended: 420,
-        kept: 421,
-        classes: 130,
-        members: 349,
-        prints: 202,
-    };
-    assert!(rt;
-        report_of(alloc, Bounds::new(2, 2, 0)?, 0)? == two_qubits,
-        "two qubits"
-    );
+    let rows = [
+        ([2, 1, 0], 0, [90, 91, 17, 77, 31]),
+        ([2, 1, 0], 1, [90, 91, 17, 77, 31]),
+        ([2, 1, 1], 0, [132, 133, 33, 111, 55]),
+        ([2, 2, 0], 0, [420, 421, 130, 349, 202]),
+    ];
+    for ([n, q, m], seed, counts) in rows {
+        let found = counts_of(rt.alloc(), Bounds::new(n, q, m)?, seed)?;
+        assert!(rt; found == counts);
+    }
     Ok(())
 }

@@ -39,8 +39,9 @@ fn insts_rise(gates: &[Inst]) -> bool {
     true
 }
 
+// By length, then by the first gate that differs; gates by kind, qubits and angle.
 #[test]
-fn gates_of_rules_rise_by_kind_qubits_and_angle(rt: HostRuntime) {
+fn circuits_of_rules_rise(rt: HostRuntime) {
     let gates = [
         Op::H(0),
         Op::H(1),
@@ -58,11 +59,7 @@ fn gates_of_rules_rise_by_kind_qubits_and_angle(rt: HostRuntime) {
         Op::Rz(0, Expr::Sum(1, 2)),
         Op::Rz(1, Expr::Const(1)),
     ];
-    assert!(rt; gates_rise(&gates));
-}
-
-#[test]
-fn circuits_of_rules_rise_by_length_and_first_difference(rt: HostRuntime) {
+    assert!(rt; gates_rise(&gates), "gates");
     let last = Op::Rz(2, Expr::Sum(1, 2));
     assert!(rt; is_before(&[], &[Op::H(0)]));
     assert!(rt; is_before(&[last], &[Op::H(0), Op::H(0)]));
@@ -71,7 +68,7 @@ fn circuits_of_rules_rise_by_length_and_first_difference(rt: HostRuntime) {
 }
 
 #[test]
-fn gates_of_programs_rise_by_kind_qubits_and_angle(rt: HostRuntime) {
+fn circuits_of_programs_rise(rt: HostRuntime) {
     let gates = [
         Inst::H(0),
         Inst::H(63),
@@ -83,11 +80,7 @@ fn gates_of_programs_rise_by_kind_qubits_and_angle(rt: HostRuntime) {
         Inst::Rz(0, 511),
         Inst::Rz(1, 1),
     ];
-    assert!(rt; insts_rise(&gates));
-}
-
-#[test]
-fn circuits_of_programs_rise_by_length_and_first_difference(rt: HostRuntime) {
+    assert!(rt; insts_rise(&gates), "gates");
     let last = Inst::Rz(63, 511);
     assert!(rt; is_before_insts(&[], &[Inst::H(0)]));
     assert!(rt; is_before_insts(&[last], &[Inst::H(0), Inst::H(0)]));

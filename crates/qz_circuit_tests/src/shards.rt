@@ -1,8 +1,7 @@
 //! Shards: circuits in the order in which they came, and their classes.
 ghost use Rattle.std.specs.Prelude.{◌≡◌, ◌+◌, ◌<◌, [], length, All, IfOk, OnOk};
-ghost use Rattle.qz_circ.specs.Order.{all_circuits, circuit_at};
-ghost use Rattle.qz_finger.specs.Fingerprint.{fingerprint};
-ghost use Rattle.qz_shard.specs.Shards.{IsAtHome};
+ghost use Rattle.qz_circ.specs.Order.{all_circuits};
+ghost use Rattle.qz_shard.specs.Shards.{IsAtHome, print_at};
 
 use qz_circ::{Bounds, Memory, Op, Steps, rank, unrank};
 use qz_finger::Probe;
@@ -20,10 +19,10 @@ fn probe_for(b: Bounds) -> Probe
 }
 
 // The fingerprint of the circuit with this rank.
-fn print_at(alloc: Global, b: Bounds, probe: Probe, r: u64) -> Result<u64, Memory>
+fn finger_at(alloc: Global, b: Bounds, probe: Probe, r: u64) -> Result<u64, Memory>
     requires rank { r < length (all_circuits b) }
     requires qubits { probe.q ≡ b.q }
-    ensures { IfOk result (λ print. print ≡ fingerprint probe.seed probe.q (circuit_at b r)) }
+    ensures { IfOk result (λ print. print ≡ print_at b probe.seed r) }
 {
     let circuit = unrank(alloc, r, b)?;
     Ok(probe.finger(&circuit))
@@ -58,8 +57,8 @@ fn shard_of(alloc: Global, b: Bounds, first: u64, second: u64) -> Result<Option<
         return Ok(None);
     }
     let probe = probe_for(b);
-    let print = print_at(alloc, b, probe, first)?;
-    let other = print_at(alloc, b, probe, second)?;
+    let print = finger_at(alloc, b, probe, first)?;
+    let other = finger_at(alloc, b, probe, second)?;
     let number = print % 16;
     if other % 16 != number {
         return Ok(None);
@@ -99,29 +98,35 @@ fn a_class_rises_in_whatever_order_its_circuits_come(rt: HostRuntime) {
     assert!(rt; both_orders(rt.alloc()) == Some(true));
 }
 
+// What a shard is made of: the bounds of its circuits, the probe of their fingerprints, and its number.
+#[derive(Drop)]
+struct Home {
+    bounds: Bounds,
+    probe: Probe,
+    number: u64,
+}
+
 // Takes a circuit into a shard of earlier ones, if it belongs there.
 fn take_in<L: Ledger>(
     alloc: Global,
+    home: &Home,
     shard: &mut Shard,
-    b: Bounds,
-    probe: Probe,
-    number: u64,
     r: u64,
     steps: &mut Steps<L>,
 ) -> Result<(), Memory>
-    requires rank { r < length (all_circuits b) }
-    requires qubits { probe.q ≡ b.q }
-    requires bounds { shard.old.bounds ≡ b }
-    requires probe { shard.old.probe ≡ probe }
-    requires number { shard.old.number ≡ number }
+    requires rank { r < length (all_circuits home.now.bounds) }
+    requires qubits { home.now.probe.q ≡ home.now.bounds.q }
+    requires bounds { shard.old.bounds ≡ home.now.bounds }
+    requires probe { shard.old.probe ≡ home.now.probe }
+    requires number { shard.old.number ≡ home.now.number }
     requires earlier { All (λ t. t < r) shard.old.journal }
-    ensures bounds { OnOk result (shard.new.bounds ≡ b) }
-    ensures probe { OnOk result (shard.new.probe ≡ probe) }
-    ensures number { OnOk result (shard.new.number ≡ number) }
+    ensures bounds { OnOk result (shard.new.bounds ≡ home.now.bounds) }
+    ensures probe { OnOk result (shard.new.probe ≡ home.now.probe) }
+    ensures number { OnOk result (shard.new.number ≡ home.now.number) }
     ensures earlier { OnOk result (All (λ t. t < r + 1) shard.new.journal) }
 {
-    let print = print_at(alloc, b, probe, r)?;
-    if print % 16 == number {
+    let print = finger_at(alloc, home.bounds, home.probe, r)?;
+    if print % 16 == home.number {
         shard.add_with_print(r, print, steps)?;
         return Ok(());
     }
@@ -129,23 +134,17 @@ fn take_in<L: Ledger>(
 }
 
 // A shard with all circuits within the bounds that belong there, by rank.
-fn filled<L: Ledger>(
-    alloc: Global,
-    b: Bounds,
-    probe: Probe,
-    number: u64,
-    blank: Blank,
-) -> Result<Shard, Memory>
+fn filled<L: Ledger>(alloc: Global, home: &Home, blank: Blank) -> Result<Shard, Memory>
     requires name { blank.name ≡ L.name }
     requires parts { blank.parts ≡ L.parts }
     requires shared { 0 < L.parts }
-    requires number { number < 16 }
-    requires qubits { probe.q ≡ b.q }
+    requires number { home.now.number < 16 }
+    requires qubits { home.now.probe.q ≡ home.now.bounds.q }
 {
     let mut steps = Steps::<L>::new(blank);
-    let mut shard = Shard::new(alloc, number, b, probe);
-    for r in 0..b.circuits() {
-        take_in(alloc, &mut shard, b, probe, number, r, &mut steps)?;
+    let mut shard = Shard::new(alloc, home.number, home.bounds, home.probe);
+    for r in 0..home.bounds.circuits() {
+        take_in(alloc, home, &mut shard, r, &mut steps)?;
     }
     Ok(shard)
 }
@@ -158,7 +157,12 @@ fn sizes(alloc: Global, b: Bounds) -> Result<([u64; 2], bool), Memory> {
     let mut classes = 0u64;
     let mut few = true;
     for number in 0..16 {
-        let shard = filled::<Brand>(alloc, b, probe, number, Blank::new(1))?;
+        let home = Home {
+            bounds: b,
+            probe,
+            number,
+        };
+        let shard = filled::<Brand>(alloc, &home, Blank::new(1))?;
         entries = entries.saturating_add(shard.len());
         classes = classes.saturating_add(shard.classes());
         few = few && shard.prints() <= shard.classes();

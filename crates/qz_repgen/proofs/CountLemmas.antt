@@ -15,16 +15,15 @@ use Rattle.std.proofs.lemmas.List.Sums.{sum_by-le}
 use Rattle.qz_circ.specs.Bounds.{IsLawful, gate_count}
 use Rattle.qz_circ.specs.Circuit.{Limits}
 use Rattle.qz_circ.specs.Classes.{ListsExactly, IsMemberRank, IsClassList}
-use Rattle.qz_circ.specs.Order.{all_circuits, circuit_at}
+use Rattle.qz_circ.specs.Order.{all_circuits}
 use Rattle.qz_circ.proofs.BoundsLemmas.{in_range, gate_count_is}
 use Rattle.qz_circ.proofs.CircuitPlaces.{Contains-map}
 use Rattle.qz_circ.proofs.ClassLaws.{Rises, rises_tail, first_below}
 use Rattle.qz_circ.proofs.RankLemmas.{all_few}
-use Rattle.qz_finger.specs.Fingerprint.{fingerprint}
-use Rattle.qz_shard.specs.Shards.{ShardParts, print_of, different_prints}
+use Rattle.qz_shard.specs.Shards.{ShardParts, different_prints, print_at, home_of}
 use Rattle.qz_shard.proofs.Partitions.{rising_short}
 use Rattle.qz_shard.proofs.Zipped.{contains_or_not, zip_length, zip_at}
-use Rattle.qz_repgen.specs.Journals.{IsKeptRank, print_at, home_of}
+use Rattle.qz_repgen.specs.Journals.{IsKeptRank}
 use Rattle.qz_repgen.specs.Numbers.{IsNumberOf}
 use Rattle.qz_repgen.specs.Reports.{IsPrint}
 use Rattle.qz_repgen.specs.Shards.{journals_of, ShardsHold}
@@ -125,18 +124,18 @@ module _ (b : Limits) (seed : ℕ) (shards : List ShardParts) (held : ShardsHold
 
   -- the different fingerprints of a shard, in order
   abbrev prints : ShardParts → List ℕ
-  prints s = (sorted (map (print_of s) s.journal)).0
+  prints s = (sorted (map (print_at s.bounds s.probe.seed) s.journal)).0
 
-  own_print : (k : ℕ) (d : ShardParts) (r : ℕ) → k < length shards → print_of (get_or shards k d) r ≡ print_at b seed r
+  own_print : (k : ℕ) (d : ShardParts) (r : ℕ) → k < length shards → print_at (get_or shards k d).bounds (get_or shards k d).probe.seed r ≡ print_at b seed r
   own_print k d r within =
       let own = held.are.each k d (omega (arith, held.are.number)) in
-      λ i. fingerprint (own.own_seed i) (own.qubits i) (circuit_at (own.bounds i) r)
+      λ i. print_at (own.bounds i) (own.own_seed i) r
 
   -- each is that of an entry
   print_source : (k : ℕ) (d : ShardParts) (p : ℕ) → k < length shards → Contains (prints (get_or shards k d)) p → (r : ℕ) × Contains (get_or shards k d).journal r × (print_at b seed r ≡ p)
   print_source k d p within has =
       let s = get_or shards k d in
-      let source = Contains-from_map (print_of s) s.journal p (((sorted (map (print_of s) s.journal)).1.exactly p).0 has) in
+      let source = Contains-from_map (print_at s.bounds s.probe.seed) s.journal p (((sorted (map (print_at s.bounds s.probe.seed) s.journal)).1.exactly p).0 has) in
       (source.0, source.1, sym (own_print k d source.0 within) ∙ source.2)
 
   print_home : (k : ℕ) (d : ShardParts) (p : ℕ) → k < length shards → Contains (prints (get_or shards k d)) p → p % 16 ≡ 0 + k
@@ -147,10 +146,10 @@ module _ (b : Limits) (seed : ℕ) (shards : List ShardParts) (held : ShardsHold
 
   pub number_of_prints : IsNumberOf (IsPrint b seed) (sum_by different_prints shards)
   number_of_prints =
-      subst (IsNumberOf (IsPrint b seed)) (length-flat_map prints shards ∙ (λ i. sum_by (λ (s : ShardParts). sym (len_sorted (map (print_of s) s.journal)) i) shards))
+      subst (IsNumberOf (IsPrint b seed)) (length-flat_map prints shards ∙ (λ i. sum_by (λ (s : ShardParts). sym (len_sorted (map (print_at s.bounds s.probe.seed) s.journal)) i) shards))
       (number_of_different (IsPrint b seed) (flat_map prints shards)
       (pairs-flat_map (λ r t. r ≢ t) prints (λ p. p % 16) (λ p u less is. omega (arith, less, ap (λ x. x % 16) is)) shards 0
-      (λ k d within. different_rising (prints (get_or shards k d)) (sorted (map (print_of (get_or shards k d)) (get_or shards k d).journal)).1.rising) print_home)
+      (λ k d within. different_rising (prints (get_or shards k d)) (sorted (map (print_at (get_or shards k d).bounds (get_or shards k d).probe.seed) (get_or shards k d).journal)).1.rising) print_home)
       (λ p. (
         λ has.
             let found = Contains-from_flat_map prints shards p has in
@@ -160,9 +159,9 @@ module _ (b : Limits) (seed : ℕ) (shards : List ShardParts) (held : ShardsHold
             let found = kept_entry h.rank h.kept in
             let s = found.0 in
             let k = found.1.0 in
-            let print : print_of s h.rank ≡ p = subst (λ (x : ShardParts). print_of x h.rank ≡ print_at b seed h.rank) found.1.2 (own_print k s h.rank found.1.1) ∙ h.own in
-            let has = subst (Contains (map (print_of s) s.journal)) print (Contains-map (print_of s) s.journal h.rank found.2) in
-            Contains-flat_map prints shards s p found.1 (((sorted (map (print_of s) s.journal)).1.exactly p).1 has),
+            let print : print_at s.bounds s.probe.seed h.rank ≡ p = subst (λ (x : ShardParts). print_at x.bounds x.probe.seed h.rank ≡ print_at b seed h.rank) found.1.2 (own_print k s h.rank found.1.1) ∙ h.own in
+            let has = subst (Contains (map (print_at s.bounds s.probe.seed) s.journal)) print (Contains-map (print_at s.bounds s.probe.seed) s.journal h.rank found.2) in
+            Contains-flat_map prints shards s p found.1 (((sorted (map (print_at s.bounds s.probe.seed) s.journal)).1.exactly p).1 has),
       )))
 
 -- ---- a class list

@@ -15,7 +15,8 @@ use Rattle.qz_circ.proofs.CircuitPlaces.{Contains-map}
 use Rattle.qz_circ.proofs.ClassLaws.{Rises}
 use Rattle.qz_paths.proofs.ClassesFound.{Contains-filter}
 use Rattle.qz_shard.specs.Journals.{AreClassesOf}
-use Rattle.qz_repgen.specs.Journals.{home_of, AreAtHome}
+use Rattle.qz_shard.specs.Shards.{home_of}
+use Rattle.qz_repgen.specs.Journals.{AreAtHome}
 use Rattle.qz_repgen.specs.Listing.{firsts_of_length, ListsFirsts}
 use Rattle.qz_repgen.specs.Rounds.{IsRepresentativeOf, IsKeptUpTo}
 use Rattle.qz_repgen.proofs.JournalClasses.{first_of, as_many, class_in, in_class, classes_of_one, class_home, first_is_representative, representative_is_first, different_permuted}

@@ -2,7 +2,6 @@
 use Rattle.std.proofs.Common.{◌≡◌, ℕ, zero, suc, ◌<◌, [], ◌∷◌, length, sym, ap, ◌∙◌, arith}
 use Rattle.std.specs.Prelude.{Contains}
 use Rattle.qz_circ.specs.Circuit.{Limits}
-use Rattle.qz_circ.specs.Bounds.{IsLawful}
 use Rattle.qz_circ.specs.Order.{circuit_at}
 use Rattle.qz_circ.proofs.CircuitPlaces.{circuit_at-zero}
 use Rattle.qz_repgen.specs.Candidate.{AreOfOneLength}
@@ -20,9 +19,9 @@ is_zero : (r : ℕ) → Contains (0 ∷ []) r → r ≡ 0
 is_zero r (zero, inside, is) = sym is
 is_zero r (suc k, inside, is) = absurd (omega arith)
 
-pub empty_of_one_length : (b : Limits) → IsLawful b → 0 < b.n → AreOfOneLength b (0 ∷ [])
-empty_of_one_length b lawful some = record {
-  listed = λ r has. omega (arith, is_zero r has, some_circuit b lawful);
+pub empty_of_one_length : (b : Limits) → 0 < b.n → AreOfOneLength b (0 ∷ [])
+empty_of_one_length b some = record {
+  listed = λ r has. omega (arith, is_zero r has, some_circuit b);
   short = λ r has. omega (arith, none r has);
   same = λ r s has_r has_s. none r has_r ∙ sym (none s has_s);
 }

@@ -18,7 +18,7 @@ use Rattle.qz_circ.specs.Equivalence.{Equivalent}
 use Rattle.qz_circ.specs.Order.{rank, circuit_at}
 use Rattle.qz_circ.specs.Classes.{IsRepresentativeRank, IsMemberRank, ListsExactly, IsClassList}
 use Rattle.qz_circ.proofs.CircuitPlaces.{Contains-map}
-use Rattle.qz_circ.proofs.ClassLaws.{Rises, rising_lists_same, contains_cases, contains_first, contains_rest}
+use Rattle.qz_circ.proofs.ClassLaws.{Rises, same_by_number, rising_lists_same, contains_cases, contains_first, contains_rest}
 use Rattle.qz_paths.proofs.ClassesFound.{Contains-filter}
 use Rattle.qz_paths.proofs.Equivalences.{reflexive, symmetric, transitive}
 use Rattle.qz_paths.proofs.Least.{representative_kept, representative_from_representatives}
@@ -27,12 +27,13 @@ use Rattle.qz_finger.proofs.Law.{one_fingerprint}
 use Rattle.qz_shard.specs.Journals.{AreEquivalentRanks, AreClassesBy, AreClassesOf}
 use Rattle.qz_shard.proofs.Partitions as partition
 use Rattle.qz_shard.proofs.Zipped.{zip_at, zip_length}
-use Rattle.qz_repgen.specs.Journals.{IsKeptRank, home_of, AreAtHome, HoldKept, several, AreTogether}
+use Rattle.qz_shard.specs.Shards.{home_of}
+use Rattle.qz_repgen.specs.Journals.{IsKeptRank, AreAtHome, HoldKept, several, AreTogether}
 use Rattle.qz_repgen.specs.Rounds.{IsKeptUpTo}
 use Rattle.qz_repgen.proofs.LowerLaws.{ranks_are_order}
 use Rattle.qz_repgen.proofs.RankLaws.{representative_below, representative_at, representative_from, is_no_representative, member_below, member_kept, member_equivalent, member_from}
 use Rattle.qz_repgen.proofs.RisingRuns.{Contains-from_map, increasing_from_rises}
-use Rattle.qz_repgen.proofs.SortedLists.{pairs-flat_map, Contains-flat_map, Contains-from_flat_map, same_by_number, IsSortedOf, sorted, Contains-from_filter}
+use Rattle.qz_repgen.proofs.SortedLists.{pairs-flat_map, Contains-flat_map, Contains-from_flat_map, IsSortedOf, sorted, Contains-from_filter}
 
 -- the first member of a class
 abbrev pub first_of : List ℕ → ℕ

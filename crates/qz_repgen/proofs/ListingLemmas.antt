@@ -16,7 +16,7 @@ use Rattle.qz_shard.specs.Shards.{ShardParts}
 use Rattle.qz_shard.proofs.Zipped.{zip_push, zip_length, zip_at}
 use Rattle.qz_repgen.specs.declared.listing.Place.{Place}
 use Rattle.qz_repgen.specs.Journals.{several, AreTogether}
-use Rattle.qz_repgen.specs.Listing.{firsts_of_length, AddsFirsts, HasFirsts, ListsFirsts, class_at_place, IsPlaceIn, AddsRow, AddsPlaces, HasPlaces, ListsPlaces}
+use Rattle.qz_repgen.specs.Listing.{firsts_of_length, AddsFirsts, HasFirsts, ListsFirsts, class_at_place, IsPlaceIn, AddsPlacesOf, AddsPlaces, HasPlaces, ListsPlaces}
 use Rattle.qz_repgen.specs.Shards.{journals_of}
 use Rattle.qz_repgen.proofs.ClassMembers.{members_are_ranks, one_classes}
 use Rattle.qz_repgen.proofs.ShardLemmas.{journal_of_shard}
@@ -63,11 +63,11 @@ several_more listed list test is = filter-append (λ (l : List ℕ). nat_lt 1 (l
 
 module _ (k : ℕ) (classes : List (List ℕ)) where
   -- no class is listed yet
-  pub row_none : (old : List Place) → AddsRow k classes (take 0 classes) old old
+  pub row_none : (old : List Place) → AddsPlacesOf k classes (take 0 classes) old old
   row_none old = record {
     row = [];
     items = sym (append-nil old);
-    is_row = record {
+    are_places = record {
       shard = λ i d inside. absurd (omega arith);
       class = λ i d inside. absurd (omega arith);
       first = λ i d inside. absurd (omega arith);
@@ -75,7 +75,7 @@ module _ (k : ℕ) (classes : List (List ℕ)) where
     };
   }
 
-  module _ (i : ℕ) (inside : i < length classes) (old places : List Place) (adds : AddsRow k classes (take i classes) old places) where
+  module _ (i : ℕ) (inside : i < length classes) (old places : List Place) (adds : AddsPlacesOf k classes (take i classes) old places) where
     abbrev class : List ℕ
     class = get_or classes i []
 
@@ -83,30 +83,30 @@ module _ (k : ℕ) (classes : List (List ℕ)) where
     one_more = take_more classes i [] inside
 
     -- a class of one member is left out
-    pub row_same : nat_lt 1 (length class) ≡ false → AddsRow k classes (take (i + 1) classes) old places
+    pub row_same : nat_lt 1 (length class) ≡ false → AddsPlacesOf k classes (take (i + 1) classes) old places
     row_same single = record {
       row = adds.row;
       items = adds.items;
-      is_row = record {
-        shard = adds.is_row.shard;
-        class = adds.is_row.class;
-        first = adds.is_row.first;
-        lists = adds.is_row.lists ∙ sym (ap several one_more ∙ several_more (take i classes) class false single ∙ append-nil (several (take i classes)));
+      are_places = record {
+        shard = adds.are_places.shard;
+        class = adds.are_places.class;
+        first = adds.are_places.first;
+        lists = adds.are_places.lists ∙ sym (ap several one_more ∙ several_more (take i classes) class false single ∙ append-nil (several (take i classes)));
       };
     }
 
     -- another one is added
-    pub row_more : (p : Place) → p.shard ≡ k → p.class ≡ i → p.first ≡ slice_index class 0 → nat_lt 1 (length class) ≡ true → (new : List Place) → new ≡ places ++ p ∷ [] → AddsRow k classes (take (i + 1) classes) old new
+    pub row_more : (p : Place) → p.shard ≡ k → p.class ≡ i → p.first ≡ slice_index class 0 → nat_lt 1 (length class) ≡ true → (new : List Place) → new ≡ places ++ p ∷ [] → AddsPlacesOf k classes (take (i + 1) classes) old new
     row_more p at_shard at_class at_first more new is = record {
       row = adds.row ++ p ∷ [];
       items = is ∙ ap (λ xs. xs ++ p ∷ []) adds.items ∙ append_assoc old adds.row (p ∷ []);
-      is_row = record {
-        shard = All-push (λ (x : Place). x.shard ≡ k) adds.row p adds.is_row.shard at_shard;
-        class = All-push (λ (x : Place). x.class < length classes) adds.row p adds.is_row.class (omega (arith, at_class, inside));
-        first = All-push (λ (x : Place). x.first ≡ slice_index (get_or classes x.class []) 0) adds.row p adds.is_row.first (at_first ∙ ap (λ n. slice_index (get_or classes n []) 0) (sym at_class));
+      are_places = record {
+        shard = All-push (λ (x : Place). x.shard ≡ k) adds.row p adds.are_places.shard at_shard;
+        class = All-push (λ (x : Place). x.class < length classes) adds.row p adds.are_places.class (omega (arith, at_class, inside));
+        first = All-push (λ (x : Place). x.first ≡ slice_index (get_or classes x.class []) 0) adds.row p adds.are_places.first (at_first ∙ ap (λ n. slice_index (get_or classes n []) 0) (sym at_class));
         lists =
             map-append (λ (x : Place). get_or classes x.class []) adds.row (p ∷ []) ∙
-            (λ j. adds.is_row.lists j ++ get_or classes (at_class j) [] ∷ []) ∙
+            (λ j. adds.are_places.lists j ++ get_or classes (at_class j) [] ∷ []) ∙
             sym (ap several one_more ∙ several_more (take i classes) class true more);
       };
     }
@@ -146,11 +146,11 @@ module _ (b : Limits) (shards : List ShardParts) where
 
     new_each : (p : Place) → Contains row p → IsPlaceIn more p
     new_each p in_row =
-        let at = All-contains (λ (x : Place). x.shard ≡ i) row p adds.added.is_row.shard in_row in
+        let at = All-contains (λ (x : Place). x.shard ≡ i) row p adds.added.are_places.shard in_row in
         record {
           shard = omega (arith, at, size, length_push has.all adds.classes);
-          class = subst (λ classes. p.class < length classes) (sym (new_stands p.shard at)) (All-contains (λ (x : Place). x.class < length adds.classes) row p adds.added.is_row.class in_row);
-          first = All-contains (λ (x : Place). x.first ≡ slice_index (get_or adds.classes x.class []) 0) row p adds.added.is_row.first in_row ∙ ap (λ classes. slice_index (get_or classes p.class []) 0) (sym (new_stands p.shard at));
+          class = subst (λ classes. p.class < length classes) (sym (new_stands p.shard at)) (All-contains (λ (x : Place). x.class < length adds.classes) row p adds.added.are_places.class in_row);
+          first = All-contains (λ (x : Place). x.first ≡ slice_index (get_or adds.classes x.class []) 0) row p adds.added.are_places.first in_row ∙ ap (λ classes. slice_index (get_or classes p.class []) 0) (sym (new_stands p.shard at));
         }
 
     -- the places of one shard more
@@ -165,8 +165,8 @@ module _ (b : Limits) (shards : List ShardParts) where
       lists =
           ap (map (class_at_place more)) adds.added.items ∙ map-append (class_at_place more) places row ∙
           (λ j. map_same (class_at_place more) (class_at_place has.all) places (λ p old. old_place p (All-contains (IsPlaceIn has.all) places p has.each old)) j ++
-          map_same (class_at_place more) (λ p. get_or adds.classes p.class []) row (λ p in_row. ap (λ classes. get_or classes p.class []) (new_stands p.shard (All-contains (λ (x : Place). x.shard ≡ i) row p adds.added.is_row.shard in_row))) j) ∙
-          (λ j. has.lists j ++ adds.added.is_row.lists j) ∙
+          map_same (class_at_place more) (λ p. get_or adds.classes p.class []) row (λ p in_row. ap (λ classes. get_or classes p.class []) (new_stands p.shard (All-contains (λ (x : Place). x.shard ≡ i) row p adds.added.are_places.shard in_row))) j) ∙
+          (λ j. has.lists j ++ adds.added.are_places.lists j) ∙
           sym (flat_map-push several has.all adds.classes);
     })
 

@@ -1,12 +1,9 @@
 -- What the crate of circuits shows of ranks, as a generation uses it.
-use Rattle.std.proofs.Common.{◌≡◌, ℕ, ◌-◌, length, sym, subst}
-use Rattle.qz_circ.specs.Circuit.{Circuit, Limits, Within, IsOn}
+use Rattle.std.proofs.Common.{◌-◌, length}
+use Rattle.qz_circ.specs.Circuit.{Circuit, Limits, Within}
 use Rattle.qz_circ.specs.Classes.{without_first, without_last}
 use Rattle.qz_circ.specs.Bounds.{IsLawful}
-use Rattle.qz_circ.proofs.BoundsLemmas.{in_range}
 use Rattle.qz_circ.proofs.CircuitPlaces.{circuit_at-within, within-drop, within-take}
-use Rattle.qz_circ.proofs.GateNumbers.{circuit_below}
-use Rattle.qz_circ.proofs.MoreParameters.{on_with_more}
 use Rattle.qz_circ.proofs.RankLemmas.{circuit_at-rank, rank_listed, rank-circuit_at, before_by_rank}
 use Rattle.qz_repgen.proofs.RankLaws.{RanksAreOrder}
 
@@ -20,12 +17,6 @@ ranks_are_order b h = record {
   rises = λ c d wc wd before. (before_by_rank b h c d wc wd).0 before;
   rises_only = λ c d wc wd lower. (before_by_rank b h c d wc wd).1 lower;
 }
-
--- a circuit within limits is on their qubits and has at most three parameters
-pub on_qubits : (b : Limits) → IsLawful b → (q : ℕ) → q ≡ b.q → (c : Circuit) → Within b c → IsOn q 3 c
-on_qubits b h q same c w =
-    let params = (in_range b h).params in
-    subst (λ x. IsOn x 3 c) (sym same) (on_with_more b.q b.m 3 c params (circuit_below b c w.gates))
 
 -- without its first gate it is within them
 pub first_within : (b : Limits) (c : Circuit) → Within b c → Within b (without_first c)

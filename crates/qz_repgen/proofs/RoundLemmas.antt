@@ -28,7 +28,7 @@ use Rattle.qz_repgen.proofs.RankLaws.{representative_below}
 use Rattle.qz_repgen.proofs.RisingRuns.{rises-append, increasing_from_rises, taken_below}
 use Rattle.qz_repgen.proofs.RoundSteps.{longer_later, of_one_length, candidates_are_kept, kept_up_to_next, kept_up_to_more, kept_of_next}
 use Rattle.qz_repgen.proofs.ShardLemmas.{held_same}
-use Rattle.qz_repgen.proofs.SortedLists.{contains_none}
+use Rattle.qz_circ.proofs.ClassLaws.{contains_none}
 
 module _ (b : Limits) (lawful : IsLawful b) (seed k : ℕ) (left : List ℕ) (kept : ListsExactly (IsKeptOf b (k + 1)) left) where
   -- the kept circuits of at most k gates, and the first i of those that are left
@@ -159,11 +159,10 @@ module _ (b : Limits) (lawful : IsLawful b) where
 -- ---- what a round goes over
 
 module _ (b : Limits) (lawful : IsLawful b) (seed k : ℕ) (shards : List ShardParts) (held : ShardsHold b seed (IsKeptUpTo b k) shards)
-    (now : List ShardParts) (now_is : now ≡ shards) (parts : List ℕ) (firsts : ListsFirsts b k (journals_of now) parts) (seen : List ℕ) (seen_is : seen ≡ parts) where
+    (parts : List ℕ) (firsts : ListsFirsts b k (journals_of shards) parts) (seen : List ℕ) (seen_is : seen ≡ parts) where
   -- the representatives of k gates
   pub parts_listed : ListsExactly (IsRepresentativeOf b k) seen
-  parts_listed = subst (ListsExactly (IsRepresentativeOf b k)) (sym seen_is)
-      (representatives_listed b lawful seed k (journals_of shards) held.journals parts (subst (λ xs. ListsFirsts b k (journals_of xs) parts) now_is firsts))
+  parts_listed = subst (ListsExactly (IsRepresentativeOf b k)) (sym seen_is) (representatives_listed b lawful seed k (journals_of shards) held.journals parts firsts)
 
   pub parts_of_one_length : k < b.n → AreOfOneLength b seen
   parts_of_one_length = of_one_length b lawful k seen parts_listed
@@ -172,11 +171,10 @@ module _ (b : Limits) (lawful : IsLawful b) (seed k : ℕ) (shards : List ShardP
   parts_number n is = record { numbers = seen; exactly = parts_listed; all_of_them = is ∙ ap length (sym seen_is) }
 
   -- their candidates are the kept circuits of one gate more
-  pub left_listed : (left : List ℕ) → ListsExactly (IsCandidate b seen) left → (items : List ℕ) → items ≡ left → ListsExactly (IsKeptOf b (k + 1)) items
-  left_listed left lists items is = subst (ListsExactly (IsKeptOf b (k + 1))) (sym is) (candidates_are_kept b lawful k seen parts_listed left lists)
+  pub left_listed : (left : List ℕ) → ListsExactly (IsCandidate b seen) left → ListsExactly (IsKeptOf b (k + 1)) left
+  left_listed = candidates_are_kept b lawful k seen parts_listed
 
 -- the classes of shards that hold the kept circuits are the class list, in the order of their first members
-pub listed_class_list : (b : Limits) → IsLawful b → (seed : ℕ) (shards : List ShardParts) → ShardsHold b seed (IsKeptRank b) shards → (now : List ShardParts) → now ≡ shards → (lists : List (List ℕ)) →
-    ((all : List (List (List ℕ))) × AllZip (AreClassesOf b) (journals_of now) all × AreTogether all lists) → IsClassList b lists
-listed_class_list b lawful seed shards held now is lists (all, are, together) =
-    class_list b lawful seed (journals_of shards) held.journals all (subst (λ xs. AllZip (AreClassesOf b) (journals_of xs) all) is are) lists together
+pub listed_class_list : (b : Limits) → IsLawful b → (seed : ℕ) (shards : List ShardParts) → ShardsHold b seed (IsKeptRank b) shards → (lists : List (List ℕ)) →
+    ((all : List (List (List ℕ))) × AllZip (AreClassesOf b) (journals_of shards) all × AreTogether all lists) → IsClassList b lists
+listed_class_list b lawful seed shards held lists (all, are, together) = class_list b lawful seed (journals_of shards) held.journals all are lists together

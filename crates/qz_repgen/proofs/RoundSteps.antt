@@ -7,7 +7,7 @@ use Rattle.qz_circ.specs.Circuit.{Circuit, Limits, Within}
 use Rattle.qz_circ.specs.Bounds.{IsLawful}
 use Rattle.qz_circ.specs.Order.{all_circuits, rank, circuit_at}
 use Rattle.qz_circ.specs.Classes.{IsRepresentative, IsKept, ListsExactly, without_first, without_last}
-use Rattle.qz_circ.proofs.CircuitPlaces.{circuit_at-zero}
+use Rattle.qz_circ.proofs.CircuitPlaces.{circuit_at-zero, all_contains}
 use Rattle.qz_paths.proofs.Parts.{before_not_longer}
 use Rattle.qz_repgen.specs.Candidate.{AreOfOneLength, IsCandidate}
 use Rattle.qz_repgen.specs.Rounds.{IsRepresentativeOf, IsKeptOf, IsKeptUpTo}
@@ -15,6 +15,10 @@ use Rattle.qz_repgen.proofs.CandidateRows.{candidate_circuit, candidate_listed}
 use Rattle.qz_repgen.proofs.LowerLaws.{ranks_are_order, first_within, last_within}
 use Rattle.qz_repgen.proofs.RankLaws.{representative_below, known_representative}
 use Rattle.qz_repgen.proofs.RankRows.{some_gates}
+
+-- there is a circuit
+pub some_circuit : (b : Limits) → 0 < length (all_circuits b)
+some_circuit b = let has = all_contains b [] (record { short = omega arith; gates = tt }) in omega (arith, has.1)
 
 module _ (b : Limits) (lawful : IsLawful b) where
   -- a circuit that comes later is not shorter
@@ -28,15 +32,11 @@ module _ (b : Limits) (lawful : IsLawful b) where
         before_not_longer (circuit_at b s) (circuit_at b t) earlier
   ]
 
-  -- there is a circuit
-  pub some_circuit : 0 < length (all_circuits b)
-  some_circuit = omega (arith, (ranks_are_order b lawful).below [] (record { short = omega arith; gates = tt }))
-
   -- the empty circuit is the only kept one of no gate
   pub empty_kept : IsKeptUpTo b 0 0
   empty_kept = record {
-    listed = some_circuit;
-    kept = record { within = (ranks_are_order b lawful).within_at 0 some_circuit; parts = inl (circuit_at-zero b) };
+    listed = some_circuit b;
+    kept = record { within = (ranks_are_order b lawful).within_at 0 (some_circuit b); parts = inl (circuit_at-zero b) };
     short = omega (arith, ap length (circuit_at-zero b));
   }
 

@@ -9,13 +9,13 @@ use Rattle.std.proofs.lemmas.List.Elements.{Contains-get_or, Contains-append_lef
 use Rattle.std.proofs.lemmas.List.Quantifiers.{all_pairs_push}
 use Rattle.qz_circ.specs.Circuit.{Limits, below}
 use Rattle.qz_circ.specs.ClassLists.{AreRanks}
-use Rattle.qz_circ.specs.Order.{all_circuits, circuit_at}
-use Rattle.qz_finger.specs.Fingerprint.{ProbeParts, fingerprint}
-use Rattle.qz_shard.specs.Shards.{ShardParts}
-use Rattle.qz_repgen.specs.Journals.{AreAtHome, home_of, print_at}
+use Rattle.qz_circ.specs.Order.{all_circuits}
+use Rattle.qz_finger.specs.Fingerprint.{ProbeParts}
+use Rattle.qz_shard.specs.Shards.{ShardParts, home_of, print_at}
+use Rattle.qz_repgen.specs.Journals.{AreAtHome}
 use Rattle.qz_repgen.specs.Shards.{IsShardOf, AreShards, journals_of, ShardsHold, empty_shard, empty_shards, IsReadyFor, with_entry, AddsTo}
 use Rattle.qz_repgen.proofs.JournalClasses.{at_home_same}
-use Rattle.qz_repgen.proofs.SortedLists.{contains_none}
+use Rattle.qz_circ.proofs.ClassLaws.{contains_none}
 
 -- ---- journals
 
@@ -131,7 +131,7 @@ module _ (b : Limits) (seed : ℕ) (P : ℕ → Type 0) (shards : List ShardPart
           number = own.number;
           listed = subst (λ x. r < length (all_circuits x)) (sym own.bounds) listed;
           new = λ has. none (entry_holds k d r within has);
-          own_print = is ∙ (λ i. fingerprint (sym own.own_seed i) (sym own.qubits i) (circuit_at (sym own.bounds i) r));
+          own_print = is ∙ (λ i. print_at (sym own.bounds i) (sym own.own_seed i) r);
         }
 
     abbrev home : ℕ

@@ -1,12 +1,12 @@
 -- Lists that rise, with the numbers of any list; and lists of lists, end to end.
-use Rattle.std.proofs.Common.{◌≡◌, ◌≢◌, ℕ, zero, suc, ◌+◌, ◌<◌, Bool, true, List, [], ◌∷◌, ◌++◌, length, get_or, ◌⊎◌, inl, inr, refl, sym, ap, subst, ◌∙◌, arith}
+use Rattle.std.proofs.Common.{◌≡◌, ◌≢◌, ℕ, suc, ◌+◌, ◌<◌, Bool, true, List, [], ◌∷◌, ◌++◌, length, get_or, ◌⊎◌, inl, inr, refl, sym, subst, ◌∙◌, arith}
 use Rattle.std.specs.Prelude.{Contains, All, ◌↔◌, filter}
 use Rattle.std.specs.List.{AllPairs, flat_map}
 use Rattle.std.proofs.lemmas.Bool.{cases_order}
 use Rattle.std.proofs.lemmas.List.Concat.{flat_map-cons}
 use Rattle.std.proofs.lemmas.List.Elements.{Contains-get_or, Contains-append_left, Contains-append_right, Contains-append_cases, All-contains, All-contains_itself, All-filter, filter_passes}
 use Rattle.std.proofs.lemmas.List.Kept.{AllPairs-cons}
-use Rattle.qz_circ.proofs.ClassLaws.{Rises, contains_cases, contains_first, contains_rest, rises_tail, first_below}
+use Rattle.qz_circ.proofs.ClassLaws.{Rises, pairs_tail, pair_first, contains_none, contains_cases, contains_first, contains_rest, rises_tail, first_below}
 use Rattle.qz_repgen.specs.Numbers.{IsNumberOf}
 use Rattle.qz_repgen.proofs.RisingRuns.{increasing_from_rises}
 
@@ -14,31 +14,19 @@ use Rattle.qz_repgen.proofs.RisingRuns.{increasing_from_rises}
 pub all_by_contains : {A : Type 0} (P : A → Type 0) (xs : List A) → ((x : A) → Contains xs x → P x) → All P xs
 all_by_contains P xs each k d inside = each (get_or xs k d) (Contains-get_or xs k d inside)
 
--- no element is in the empty list
-pub contains_none : {A : Type 0} (x : A) → Contains [] x → ⊥
-contains_none x has = omega (arith, has.1)
-
 -- ---- pairs
 
 module _ {A : Type 0} (R : A → A → Type 0) where
-  -- the pairs of the rest
-  pub pairs_tail : (x : A) (xs : List A) → AllPairs R (x ∷ xs) → AllPairs R xs
-  pairs_tail x xs pairs i j d before inside = pairs (suc i) (suc j) d (omega arith) (omega arith)
-
-  -- the first element with another one
-  pub pair_first : (x : A) (xs : List A) → AllPairs R (x ∷ xs) → (y : A) → Contains xs y → R x y
-  pair_first x xs pairs y (k, inside, is) = subst (R x) is (pairs zero (suc k) y (omega arith) (omega arith))
-
   -- the pairs of two lists end to end
   pub pairs-append : (xs ys : List A) → AllPairs R xs → AllPairs R ys → ((x y : A) → Contains xs x → Contains ys y → R x y) → AllPairs R (xs ++ ys)
   pairs-append [] ys rx ry across = ry
   pairs-append (x ∷ xs) ys rx ry across =
       AllPairs-cons R x (xs ++ ys)
       (all_by_contains (R x) (xs ++ ys) (λ y has. elim (Contains-append_cases xs ys y has) [
-        | inl left ↦ pair_first x xs rx y left
+        | inl left ↦ pair_first R x xs rx y left
         | inr right ↦ across x y (contains_first x xs) right
       ]))
-      (pairs-append xs ys (pairs_tail x xs rx) ry (λ z y has_z has_y. across z y (contains_rest x xs z has_z) has_y))
+      (pairs-append xs ys (pairs_tail R x xs rx) ry (λ z y has_z has_y. across z y (contains_rest x xs z has_z) has_y))
 
 -- ---- rising lists of the numbers of a list
 
@@ -189,34 +177,6 @@ module _ {A B : Type 0} (R : B → B → Type 0) (f : A → List B) (number : B 
       let place = source.1.0 in
       let later : number z ≡ start + suc place = numbered (suc place) source.0 z (omega (arith, source.1.1)) (subst (λ a. Contains (f a) z) (sym source.1.2) source.2) in
       apart y z (omega (arith, numbered 0 x y (omega arith) has_y, later))))
-
--- ---- lists by a number of each element
-
--- lists that rise by a number of each element, with the same elements, are the same
-pub same_by_number : {A : Type 0} (number : A → ℕ) (xs ys : List A) → AllPairs (λ x y. number x < number y) xs → AllPairs (λ x y. number x < number y) ys →
-    ((x : A) → Contains xs x → Contains ys x) → ((x : A) → Contains ys x → Contains xs x) → xs ≡ ys
-same_by_number number [] [] rx ry to from = refl
-same_by_number number [] (y ∷ ys) rx ry to from = absurd (contains_none y (from y (contains_first y ys)))
-same_by_number number (x ∷ xs) [] rx ry to from = absurd (contains_none x (to x (contains_first x xs)))
-same_by_number {A} number (x ∷ xs) (y ∷ ys) rx ry to from =
-    let R : A → A → Type 0 = λ a c. number a < number c in
-    let first : x ≡ y = elim (contains_cases y ys x (to x (contains_first x xs))) [
-      | inl same ↦ sym same
-      | inr later ↦ elim (contains_cases x xs y (from y (contains_first y ys))) [
-        | inl same ↦ same
-        | inr later' ↦ absurd (omega (arith, pair_first R y ys ry x later, pair_first R x xs rx y later'))
-      ]
-    ] in
-    let to_rest : (z : A) → Contains xs z → Contains ys z = λ z has. elim (contains_cases y ys z (to z (contains_rest x xs z has))) [
-      | inl same ↦ absurd (omega (arith, pair_first R x xs rx z has, ap number (first ∙ same)))
-      | inr later ↦ later
-    ] in
-    let from_rest : (z : A) → Contains ys z → Contains xs z = λ z has. elim (contains_cases x xs z (from z (contains_rest y ys z has))) [
-      | inl same ↦ absurd (omega (arith, pair_first R y ys ry z has, ap number (sym first ∙ same)))
-      | inr later ↦ later
-    ] in
-    let rest = same_by_number number xs ys (pairs_tail R x xs rx) (pairs_tail R y ys ry) to_rest from_rest in
-    λ i. first i ∷ rest i
 
 -- an element that a filter leaves stands in the list and passes the test
 pub Contains-from_filter : {A : Type 0} (test : A → Bool) (xs : List A) (x : A) → Contains (filter test xs) x → Contains xs x × (test x ≡ true)

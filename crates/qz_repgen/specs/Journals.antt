@@ -1,24 +1,16 @@
 -- Journals of kept circuits, and the list that their classes make together.
-use Rattle.std.specs.Prelude.{◌≡◌, ℕ, ◌<◌, ◌%◌, ◌↔◌, List, [], length, filter, nat_lt, slice_index, slice_index_or, Contains}
+use Rattle.std.specs.Prelude.{◌≡◌, ℕ, ◌<◌, ◌↔◌, List, [], length, filter, nat_lt, slice_index, slice_index_or, Contains}
 use Rattle.std.specs.List.{AllPairs, AllByRecursion, flat_map}
 use Rattle.std.specs.List.Sorted.{IsPermutation, IsNonDecreasingBy}
 use Rattle.qz_circ.specs.Circuit.{Limits}
 use Rattle.qz_circ.specs.Order.{all_circuits, circuit_at}
 use Rattle.qz_circ.specs.Classes.{IsKept}
-use Rattle.qz_finger.specs.Fingerprint.{fingerprint}
+use Rattle.qz_shard.specs.Shards.{home_of}
 
 -- r is the rank of a kept circuit
 pub record IsKeptRank (b : Limits) (r : ℕ) : Type 0 where
   pub listed : r < length (all_circuits b)
   pub kept : IsKept b (circuit_at b r)
-
--- the fingerprint of the circuit with this rank
-abbrev pub print_at : Limits → ℕ → ℕ → ℕ
-print_at b seed r = fingerprint seed b.q (circuit_at b r)
-
--- the number of the journal in which it belongs: the fingerprint's remainder by 16
-abbrev pub home_of : Limits → ℕ → ℕ → ℕ
-home_of b seed r = print_at b seed r % 16
 
 -- 16 journals have together exactly the numbers of which the fact holds, each once, and in the journal of its home
 pub record AreAtHome (home : ℕ → ℕ) (P : ℕ → Type 0) (journals : List (List ℕ)) : Type 0 where

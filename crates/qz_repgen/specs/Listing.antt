@@ -42,23 +42,23 @@ pub record IsPlaceIn (all : List (List (List ℕ))) (p : Place) : Type 0 where
   pub first : p.first ≡ slice_index (class_at_place all p) 0
 
 -- the row has the places of those of the listed classes that have several members; all are classes of journal number k
-pub record IsRow (k : ℕ) (classes listed : List (List ℕ)) (row : List Place) : Type 0 where
+pub record ArePlacesOf (k : ℕ) (classes listed : List (List ℕ)) (row : List Place) : Type 0 where
   pub shard : All (λ p. p.shard ≡ k) row
   pub class : All (λ p. p.class < length classes) row
   pub first : All (λ p. p.first ≡ slice_index (slice_index_or classes p.class []) 0) row
   pub lists : map (λ p. slice_index_or classes p.class []) row ≡ several listed
 
 -- new is old with the places of the listed ones among these classes
-pub record AddsRow (k : ℕ) (classes listed : List (List ℕ)) (old new : List Place) : Type 0 where
+pub record AddsPlacesOf (k : ℕ) (classes listed : List (List ℕ)) (old new : List Place) : Type 0 where
   pub row : List Place
   pub items : new ≡ old ++ row
-  pub is_row : IsRow k classes listed row
+  pub are_places : ArePlacesOf k classes listed row
 
 -- new is old with the places of the classes of several members of journal number k
 pub record AddsPlaces (b : Limits) (k : ℕ) (journal : List ℕ) (old new : List Place) : Type 0 where
   pub classes : List (List ℕ)
   pub are : AreClassesOf b journal classes
-  pub added : AddsRow k classes classes old new
+  pub added : AddsPlacesOf k classes classes old new
 
 -- the places of the classes of several members of all journals, journal by journal
 pub record HasPlaces (b : Limits) (journals : List (List ℕ)) (places : List Place) : Type 0 where

@@ -5,7 +5,8 @@ use Rattle.qz_circ.specs.Circuit.{Limits}
 use Rattle.qz_circ.specs.Classes.{IsRepresentativeRank, IsClassList}
 use Rattle.qz_circ.specs.Order.{circuit_at}
 use Rattle.qz_circ.specs.declared.report.Report.{Report}
-use Rattle.qz_repgen.specs.Journals.{IsKeptRank, print_at}
+use Rattle.qz_shard.specs.Shards.{print_at}
+use Rattle.qz_repgen.specs.Journals.{IsKeptRank}
 use Rattle.qz_repgen.specs.Numbers.{IsNumberOf}
 
 -- r is the rank of a representative that has fewer gates than the limits allow

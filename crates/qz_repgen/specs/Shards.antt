@@ -5,10 +5,10 @@ use Rattle.qz_circ.specs.Order.{all_circuits, circuit_at}
 use Rattle.qz_finger.specs.Fingerprint.{ProbeParts}
 use Rattle.qz_finger.specs.Stands.{StandsFor}
 use Rattle.qz_finger.specs.Sums.{Extends}
-use Rattle.qz_shard.specs.Shards.{ShardParts, print_of}
-use Rattle.qz_repgen.specs.declared.front.Front.{Front}
-use Rattle.qz_repgen.specs.declared.front.Start.{Start}
-use Rattle.qz_repgen.specs.Journals.{AreAtHome, home_of}
+use Rattle.qz_shard.specs.Shards.{ShardParts, print_at, home_of}
+use Rattle.qz_repgen.specs.declared.fingerprints.CircuitExtensions.{CircuitExtensions}
+use Rattle.qz_repgen.specs.declared.fingerprints.CircuitValues.{CircuitValues}
+use Rattle.qz_repgen.specs.Journals.{AreAtHome}
 
 -- it is shard number k, of these limits and this seed
 pub record IsShardOf (b : Limits) (seed k : ℕ) (s : ShardParts) : Type 0 where
@@ -44,7 +44,7 @@ pub record IsReadyFor (r print k : ℕ) (s : ShardParts) : Type 0 where
   pub number : s.number ≡ k
   pub listed : r < length (all_circuits s.bounds)
   pub new : Contains s.journal r → ⊥
-  pub own_print : print ≡ print_of s r
+  pub own_print : print ≡ print_at s.bounds s.probe.seed r
 
 -- the shard with r at the end of its journal
 abbrev pub with_entry : ShardParts → ℕ → ShardParts
@@ -55,12 +55,12 @@ abbrev pub AddsTo : ℕ → ℕ → List ShardParts → List ShardParts → Type
 AddsTo k r old new = (d : ShardParts) → new ≡ slice_set old k (with_entry (slice_index_or old k d) r)
 
 -- the values are those of the circuit with this rank
-pub record IsStart (b : Limits) (probe : ProbeParts) (start : Start) : Type 0 where
-  pub listed : start.rank < length (all_circuits b)
-  pub stands : StandsFor probe (circuit_at b start.rank) start.values
+pub record HoldsValues (b : Limits) (probe : ProbeParts) (circuit : CircuitValues) : Type 0 where
+  pub listed : circuit.rank < length (all_circuits b)
+  pub stands : StandsFor probe (circuit_at b circuit.rank) circuit.values
 
 -- what fingerprints are made of is that of the circuit with this rank, and the shorter circuit has its values
-pub record IsFront (b : Limits) (probe : ProbeParts) (front : Front) : Type 0 where
-  pub listed : front.rank < length (all_circuits b)
-  pub extends : Extends probe (circuit_at b front.rank) front.extensions
-  pub start : IsStart b probe front.start
+pub record HoldsExtensions (b : Limits) (probe : ProbeParts) (circuit : CircuitExtensions) : Type 0 where
+  pub listed : circuit.rank < length (all_circuits b)
+  pub extends : Extends probe (circuit_at b circuit.rank) circuit.extensions
+  pub shorter : HoldsValues b probe circuit.shorter

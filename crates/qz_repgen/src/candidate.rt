@@ -9,8 +9,9 @@ ghost use Rattle.qz_repgen.specs.Candidate.{AreOfOneLength, IsCandidate, AddsRow
 use qz_circ::{Bounds, Memory, drop_first_rank};
 use std::alloc::Global;
 
-/// The ranks of all circuits that aren't empty and whose parts without the first and without the last gate have ranks in the
-/// list, in order. The list rises, and its circuits have one length, less than the bounds allow.
+/// The ranks, in order, of all circuits of one gate more than those of the list whose parts without the first and without the last
+/// gate both have ranks in the list. So the empty circuit is none. The list rises, and its circuits have one length, less than the
+/// bounds allow.
 pub fn candidates(alloc: Global, reps: &[u64], b: Bounds) -> Result<Vec<u64>, Memory>
     requires rising { IsStrictlyIncreasing reps.now }
     requires one_length { AreOfOneLength b reps.now }

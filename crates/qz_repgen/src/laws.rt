@@ -13,7 +13,7 @@ ghost use Rattle.qz_shard.specs.Journals.{AreClassesOf};
 /// No rank, and the rank of the empty circuit where a longer one is within the limits, are of circuits of one length.
 pub fn first_ranks_are_of_one_length()
     ensures none { (b : Limits) → AreOfOneLength b [] }
-    ensures empty { (b : Limits) → IsLawful b → 0 < b.n → AreOfOneLength b (0 ∷ []) }
+    ensures empty { (b : Limits) → 0 < b.n → AreOfOneLength b (0 ∷ []) }
 {}
 
 /// In whatever order the kept circuits came into 16 journals, each once and into the journal of its fingerprint's remainder by 16:

@@ -8,19 +8,19 @@ ghost use Rattle.qz_repgen.specs.Reports.{IsReport};
 
 mod candidate;
 mod counts;
-mod front;
+mod fingerprints;
+mod finish;
 pub mod laws;
 mod listing;
 mod rounds;
 mod shards;
 
 pub use candidate::candidates;
-use counts::report_of;
-use listing::listed;
+pub use finish::finished;
 use qz_circ::{Bounds, Classes, Memory, Report, Steps};
 use qz_finger::Probe;
 use rounds::all_rounds;
-use shards::sixteen;
+pub use rounds::{first_shards, next_kept};
 use std::alloc::Global;
 use std::marker::Brand;
 use std::sync::ledger::{Blank, Ledger};
@@ -57,9 +57,8 @@ fn generate<L: Ledger>(
 {
     let mut steps = Steps::<L>::new(blank);
     let probe = Probe::new(seed, b.q());
-    let mut shards = sixteen(alloc, b, &probe)?;
+    let mut shards = first_shards(alloc, b, &probe, &mut steps)?;
     let representatives = all_rounds(alloc, b, &probe, &mut shards, &mut steps)?;
-    let classes = listed(alloc, b, &shards)?;
-    let report = report_of(b, seed, representatives, &shards, &classes);
-    Ok((classes, report))
+    let made = finished(alloc, b, seed, representatives, &shards)?;
+    Ok(made)
 }

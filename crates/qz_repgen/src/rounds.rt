@@ -1,17 +1,18 @@
 //! Rounds: the kept circuits of one gate more, from the representatives so far.
-ghost use Rattle.std.specs.Prelude.{◌≡◌, ◌+◌, ◌<◌, All, IfOk, OnOk, IsOk};
+ghost use Rattle.std.specs.Prelude.{◌≡◌, ◌+◌, ◌<◌, ℕ, All, IfOk, OnOk};
 ghost use Rattle.qz_circ.specs.Bounds.{IsLawful};
 ghost use Rattle.qz_circ.specs.ClassLists.{AreRanks};
+ghost use Rattle.qz_circ.specs.Classes.{ListsExactly};
 ghost use Rattle.qz_repgen.specs.Journals.{IsKeptRank};
 ghost use Rattle.qz_repgen.specs.Listing.{AddsFirsts, ListsFirsts};
 ghost use Rattle.qz_repgen.specs.Numbers.{IsNumberOf};
 ghost use Rattle.qz_repgen.specs.Reports.{IsExtended};
-ghost use Rattle.qz_repgen.specs.Rounds.{IsRepresentativeOf, IsKeptUpTo};
+ghost use Rattle.qz_repgen.specs.Rounds.{IsRepresentativeOf, IsKeptOf, IsKeptUpTo};
 ghost use Rattle.qz_repgen.specs.Shards.{journals_of, empty_shards, ShardsHold};
 
 use crate::candidate::candidates;
-use crate::front::Front;
-use crate::shards::take_in;
+use crate::fingerprints::CircuitExtensions;
+use crate::shards::{sixteen, take_in};
 use qz_circ::{Bounds, Memory, Steps, drop_last_rank, length_of};
 use qz_finger::Probe;
 use qz_shard::Shard;
@@ -47,64 +48,96 @@ fn firsts(alloc: Global, b: Bounds, shards: &[Shard], k: u64) -> Result<Vec<u64>
     Ok(found)
 }
 
-// Takes in the kept circuits of k + 1 gates, where those of fewer are in the shards. They are the candidates of the
-// representatives of k gates; answers how many of these there are.
+/// The ranks of the kept circuits of k + 1 gates, in order, where the shards hold those of at most k gates, and k is less than the
+/// bounds' number of gates; and how many representatives of k gates there are. The kept circuits are the candidates of these.
+pub fn next_kept(
+    alloc: Global,
+    b: Bounds,
+    shards: &[Shard],
+    k: u64,
+) -> Result<(Vec<u64>, u64), Memory>
+    requires short { k < b.n }
+    requires held { (seed : ℕ) × ShardsHold b seed (IsKeptUpTo b k) shards.now }
+    ensures kept { IfOk result (λ next. ListsExactly (IsKeptOf b (k + 1)) next.0.items) }
+    ensures number { IfOk result (λ next. IsNumberOf (IsRepresentativeOf b k) next.1) }
+{
+    let parts = firsts(alloc, b, shards, k)?;
+    let kept = candidates(alloc, &parts, b)?;
+    Ok((kept, parts.len() as u64))
+}
+
+// Takes in the kept circuits of k + 1 gates, where those of fewer are in the shards, and answers how many representatives of k
+// gates there are.
 fn round<L: Ledger>(
     alloc: Global,
     b: Bounds,
     probe: &Probe,
     k: u64,
-    shards: &mut Vec<Shard>,
+    shards: &mut [Shard],
     steps: &mut Steps<L>,
 ) -> Result<u64, Memory>
     requires lawful { IsLawful b }
     requires qubits { probe.now.q ≡ b.q }
     requires short { k < b.n }
-    requires held { ShardsHold b probe.now.seed (IsKeptUpTo b k) shards.old.items }
-    ensures held { OnOk result (ShardsHold b probe.now.seed (IsKeptUpTo b (k + 1)) shards.new.items) }
+    requires held { ShardsHold b probe.now.seed (IsKeptUpTo b k) shards.old }
+    ensures held { OnOk result (ShardsHold b probe.now.seed (IsKeptUpTo b (k + 1)) shards.new) }
     ensures number { IfOk result (IsNumberOf (IsRepresentativeOf b k)) }
 {
-    let parts = firsts(alloc, b, shards, k)?;
-    let left = candidates(alloc, &parts, b)?;
-    let mut front = Front::new(b, probe);
+    let (left, representatives) = next_kept(alloc, b, shards, k)?;
+    let mut extensions = CircuitExtensions::new(b, probe);
     for r in &left {
-        front.go_to(alloc, b, probe, drop_last_rank(*r, b))?;
-        let print = front.print_with(b, probe, *r);
+        extensions.go_to(alloc, b, probe, drop_last_rank(*r, b))?;
+        let print = extensions.print_with(b, probe, *r);
         take_in(shards, *r, print, steps)?;
     }
-    Ok(parts.len() as u64)
+    Ok(representatives)
 }
 
 // Takes in the empty circuit.
 fn begin<L: Ledger>(
     b: Bounds,
     probe: &Probe,
-    shards: &mut Vec<Shard>,
+    shards: &mut [Shard],
     steps: &mut Steps<L>,
 ) -> Result<(), Memory>
     requires lawful { IsLawful b }
     requires qubits { probe.now.q ≡ b.q }
-    requires empty { shards.old.items ≡ empty_shards b probe.now 16 }
-    ensures { OnOk result (ShardsHold b probe.now.seed (IsKeptUpTo b 0) shards.new.items) }
+    requires empty { shards.old ≡ empty_shards b probe.now 16 }
+    ensures { OnOk result (ShardsHold b probe.now.seed (IsKeptUpTo b 0) shards.new) }
 {
     let print = probe.finger(&[]);
     take_in(shards, 0, print, steps)
 }
 
-// Takes in all kept circuits, and answers how many representatives have fewer gates than the bounds allow.
+/// The sixteen shards of a generation, of which one has the empty circuit, and the others have nothing.
+pub fn first_shards<L: Ledger>(
+    alloc: Global,
+    b: Bounds,
+    probe: &Probe,
+    steps: &mut Steps<L>,
+) -> Result<Vec<Shard>, Memory>
+    requires { probe.now.q ≡ b.q }
+    ensures { IfOk result (λ shards. ShardsHold b probe.now.seed (IsKeptUpTo b 0) shards.items) }
+{
+    let mut shards = sixteen(alloc, b, probe)?;
+    begin(b, probe, &mut shards, steps)?;
+    Ok(shards)
+}
+
+// Takes in all kept circuits, where the empty one is in the shards, and answers how many representatives have fewer gates than the
+// bounds allow.
 pub(crate) fn all_rounds<L: Ledger>(
     alloc: Global,
     b: Bounds,
     probe: &Probe,
-    shards: &mut Vec<Shard>,
+    shards: &mut [Shard],
     steps: &mut Steps<L>,
 ) -> Result<u64, Memory>
     requires qubits { probe.now.q ≡ b.q }
-    requires empty { shards.old.items ≡ empty_shards b probe.now 16 }
-    ensures held { OnOk result (ShardsHold b probe.now.seed (IsKeptRank b) shards.new.items) }
+    requires held { ShardsHold b probe.now.seed (IsKeptUpTo b 0) shards.old }
+    ensures held { OnOk result (ShardsHold b probe.now.seed (IsKeptRank b) shards.new) }
     ensures number { IfOk result (IsNumberOf (IsExtended b)) }
 {
-    begin(b, probe, shards, steps)?;
     let mut representatives = 0;
     for k in 0..b.n() {
         let longest = round(alloc, b, probe, k, shards, steps)?;

@@ -25,14 +25,14 @@ pub(crate) fn sixteen(alloc: Global, b: Bounds, probe: &Probe) -> Result<Vec<Sha
 
 // Adds a circuit, which has this fingerprint, to the shard where it is at home. It is in none of them.
 pub(crate) fn take_in<L: Ledger>(
-    shards: &mut Vec<Shard>,
+    shards: &mut [Shard],
     r: u64,
     print: u64,
     steps: &mut Steps<L>,
 ) -> Result<(), Memory>
-    requires number { length shards.old.items ≡ 16 }
-    requires ready { (k : ℕ) (d : ShardParts) → k < 16 → IsReadyFor r print k (slice_index_or shards.old.items k d) }
-    ensures { OnOk result (AddsTo (print % 16) r shards.old.items shards.new.items) }
+    requires number { length shards.old ≡ 16 }
+    requires ready { (k : ℕ) (d : ShardParts) → k < 16 → IsReadyFor r print k (slice_index_or shards.old k d) }
+    ensures { OnOk result (AddsTo (print % 16) r shards.old shards.new) }
 {
     let home = (print % 16) as usize;
     shards[home].add_with_print(r, print, steps)?;

@@ -68,11 +68,6 @@ fn queue_row(alloc: Global) -> Option<bool> {
     Some(kept && taken && merged)
 }
 
-#[test]
-fn a_queue_of_two_keeps_the_first(rt: HostRuntime) {
-    assert!(rt; queue_row(rt.alloc()) == Some(true));
-}
-
 // Puts two circuits into a set, one of them twice.
 fn seen_row(alloc: Global) -> Option<bool> {
     let mut seen = Seen::new(alloc);
@@ -87,8 +82,9 @@ fn seen_row(alloc: Global) -> Option<bool> {
 }
 
 #[test]
-fn a_set_tells_what_was_put_in(rt: HostRuntime) {
-    assert!(rt; seen_row(rt.alloc()) == Some(true));
+fn queues_keep_the_first_and_sets_all(rt: HostRuntime) {
+    assert!(rt; queue_row(rt.alloc()) == Some(true), "a queue of two");
+    assert!(rt; seen_row(rt.alloc()) == Some(true), "a set");
 }
 
 // Whether a plan with these numbers has this fault.

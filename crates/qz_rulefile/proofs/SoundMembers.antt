@@ -1,21 +1,11 @@
 -- Members of classes that are equivalent to the first ones.
-use Rattle.std.proofs.Common.{◌≡◌, ℕ, zero, suc, ◌+◌, ◌<◌, ◌≤◌, List, true, sym, subst, below_more, arith}
+use Rattle.std.proofs.Common.{◌≡◌, ℕ, zero, suc, ◌+◌, List, true, subst, below_more, arith}
 use Rattle.std.specs.Prelude.{Bool, ◌↔◌, IsTrue}
-use Rattle.qz_circ.specs.Circuit.{Circuit, Limits, Within, IsOn}
-use Rattle.qz_circ.specs.Bounds.{IsLawful}
+use Rattle.qz_circ.specs.Circuit.{Circuit}
 use Rattle.qz_circ.specs.Equivalence.{Equivalent}
 use Rattle.qz_circ.specs.RuleFiles.{numbered_member, IsSoundAt}
-use Rattle.qz_circ.proofs.BoundsLemmas.{in_range}
-use Rattle.qz_circ.proofs.GateNumbers.{circuit_below}
-use Rattle.qz_circ.proofs.MoreParameters.{on_with_more}
 use Rattle.qz_paths.proofs.Equivalences.{reflexive}
 use Rattle.qz_rulefile.specs.Soundness.{AreSoundBefore}
-
--- a circuit within limits is on their qubits and has at most three parameters
-pub on_qubits : (b : Limits) → IsLawful b → (q : ℕ) → q ≡ b.q → (c : Circuit) → Within b c → IsOn q 3 c
-on_qubits b h q same c w =
-    let params = (in_range b h).params in
-    subst (λ x. IsOn x 3 c) (sym same) (on_with_more b.q b.m 3 c params (circuit_below b c w.gates))
 
 -- the first member is equivalent to itself
 pub first_is_sound : (q : ℕ) (classes : List (List Circuit)) (c : ℕ) → AreSoundBefore q classes c 1

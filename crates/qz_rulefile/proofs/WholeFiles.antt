@@ -82,12 +82,9 @@ head_of b file rest e = head_exact.takes file b rest e
 pub has_head : (b : Limits) (file rest : List ℕ) → head_at file ≡ Ok (b, rest) → HasHead b file
 has_head b file rest e = let t = head_of b file rest e in record { head = t.0; rest = rest; is_head = t.1; parts = t.2 }
 
--- the classes as they are read from an empty list
-pub from_empty : (b c : Limits) (members ends bytes : List ℕ) (count : ℕ) → c ≡ b → members ≡ [] → ends ≡ [] → folded_at with_class (record { members = members; ends = ends }) (class_at c) count bytes ≡ folded_at with_class (record { members = []; ends = [] }) (class_at b) count bytes
-from_empty b c members ends bytes count same none no_ends =
-    ap (λ (d : Limits). folded_at with_class (record { members = members; ends = ends }) (class_at d) count bytes) same
-    ∙ ap (λ (m : List ℕ). folded_at with_class (record { members = m; ends = ends }) (class_at b) count bytes) none
-    ∙ ap (λ (m : List ℕ). folded_at with_class (record { members = []; ends = m }) (class_at b) count bytes) no_ends
+-- the classes as they are read into empty lists
+pub from_empty : (b : Limits) (members ends bytes : List ℕ) (count : ℕ) → members ≡ [] → ends ≡ [] → folded_at with_class (record { members = members; ends = ends }) (class_at b) count bytes ≡ folded_at with_class (record { members = []; ends = [] }) (class_at b) count bytes
+from_empty b members ends bytes count none no_ends = λ i. folded_at with_class (record { members = none i; ends = no_ends i }) (class_at b) count bytes
 
 -- a fault behind the first two lines, handed on
 pub behind_fails : (b : Limits) → IsLawful b → (bytes : List ℕ) (fault : ReadError) → Fails fault (kept_at b bytes) → TellsClasses b bytes (Err fault)

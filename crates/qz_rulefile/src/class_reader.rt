@@ -1,5 +1,5 @@
 //! Reading classes into one list of ranks.
-ghost use Rattle.std.specs.Prelude.{◌≡◌, ◌∷◌, [], ◌<◌, map, length};
+ghost use Rattle.std.specs.Prelude.{◌∷◌, [], ◌<◌};
 ghost use Rattle.qz_circ.specs.FirstFault.{Gives};
 ghost use Rattle.qz_rulefile.specs.Flat.{Tells, folded_at, one_more, class_onto, with_class};
 ghost use Rattle.qz_rulefile.specs.Reading as reading;
@@ -17,6 +17,9 @@ pub(crate) struct Head {
     pub(crate) q: u64,
     pub(crate) m: u64,
 }
+
+// The ranks of all members, class by class, and where the classes end.
+pub(crate) type Kept = (Vec<u32>, Vec<usize>);
 
 // What stands before the numbers of the second line.
 #[tactic(auto, unfolding(crate::specs::Reading::head_word))]
@@ -118,22 +121,23 @@ fn class<'a>(
     Ok(rest)
 }
 
-// Appends the classes, so many.
+// The classes, so many: the ranks of all members, and where the classes end.
 pub(crate) fn classes<'a>(
+    alloc: Global,
     texts: &GateTexts,
-    ranks: &mut Vec<u32>,
-    ends: &mut Vec<usize>,
     count: u64,
     bytes: &'a [u8],
-) -> Result<&'a [u8], ReadError>
-    ensures { Tells (λ rest. (record { members = ranks.new.items; ends = ends.new.items }, rest.now)) result (folded_at with_class (record { members = ranks.old.items; ends = ends.old.items }) (reading.class_at texts.now.bounds) count bytes.now) }
+) -> Result<(Kept, &'a [u8]), ReadError>
+    ensures { Tells (λ x. (record { members = x.0.0.items; ends = x.0.1.items }, x.1.now)) result (folded_at with_class (record { members = []; ends = [] }) (reading.class_at texts.now.bounds) count bytes.now) }
 {
+    let mut ranks = Vec::new(alloc);
+    let mut ends = Vec::new(alloc);
     let mut rest = bytes;
     for _ in 0..count {
-        rest = match class(texts, ranks, ends, rest) {
+        rest = match class(texts, &mut ranks, &mut ends, rest) {
             Ok(behind) => behind,
             Err(fault) => return Err(fault),
         };
     }
-    Ok(rest)
+    Ok(((ranks, ends), rest))
 }

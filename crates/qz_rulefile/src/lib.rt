@@ -8,9 +8,9 @@ mod gate_texts;
 pub mod laws;
 mod parts;
 mod rank_lists;
-pub mod reader;
-pub mod rule_text;
-pub mod rules;
+mod reader;
+mod rule_text;
+mod rules;
 mod soundness;
 
 pub use qz_circ::RuleFault;

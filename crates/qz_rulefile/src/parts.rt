@@ -1,6 +1,6 @@
 //! Reading the front of a text: words and numbers. Each function answers a value and the bytes after it, or how many bytes
 //! are left where the text stops being lawful.
-ghost use Rattle.std.specs.Prelude.{◌≡◌, ◌<◌, ◌≤◌, ◌+◌, ◌*◌, [], ◌∷◌, length, drop, map, true, option_map, ◌==◌, ◌&&◌, nat_lt, nat_le, slice_index_or};
+ghost use Rattle.std.specs.Prelude.{◌≡◌, ◌<◌, ◌≤◌, ◌+◌, ◌*◌, [], ◌∷◌, length, true, option_map, ◌==◌, ◌&&◌, nat_lt, nat_le, slice_index_or};
 ghost use Rattle.qz_circ.specs.FirstFault.{Gives};
 ghost use Rattle.qz_rulefile.specs.Reading as reading;
 ghost use Rattle.qz_rulefile.specs.Texts.{texts_of};

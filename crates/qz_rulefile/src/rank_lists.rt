@@ -23,7 +23,6 @@ pub(crate) struct RankLists {
 
 impl Model for RankLists {
     ghost use Rattle.std.specs.Prelude.{length};
-    ghost use Rattle.qz_circ.specs.Bounds.{IsLawful};
     ghost use Rattle.qz_circ.specs.ClassLists.{AreRanks};
     ghost use Rattle.qz_circ.specs.RuleFiles.{RuleClasses, AreClasses};
     ghost use Rattle.qz_circ.specs.Joined.{circuits_of_ranks};

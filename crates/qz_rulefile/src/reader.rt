@@ -1,11 +1,11 @@
 //! Reading rule files.
-ghost use Rattle.std.specs.Prelude.{◌≢◌, IfOk};
+ghost use Rattle.std.specs.Prelude.{◌≢◌};
 ghost use Rattle.qz_circ.specs.Bounds.{IsLawful};
 ghost use Rattle.qz_circ.specs.RuleFiles.{Reads};
 ghost use Rattle.qz_rulefile.specs.Flat.{Tells, kept_at};
 ghost use Rattle.qz_rulefile.specs.Forms.{ReadsForm, TellsClasses};
 
-use crate::class_reader::{classes, classes_count, end, read_head};
+use crate::class_reader::{Kept, classes, classes_count, end, read_head};
 use crate::faults::ReadError;
 use crate::gate_texts::GateTexts;
 use crate::rank_lists::RankLists;
@@ -13,9 +13,6 @@ use crate::rules::Rules;
 use crate::soundness::first_unsound;
 use qz_circ::{Bounds, RuleFault};
 use std::alloc::Global;
-
-// The ranks of all members, and where the classes end.
-type Kept = (Vec<u32>, Vec<usize>);
 
 // The classes and the end of a file, behind its first two lines.
 fn kept_behind(alloc: Global, b: Bounds, bytes: &[u8]) -> Result<(Kept, &[u8]), ReadError>
@@ -28,14 +25,12 @@ fn kept_behind(alloc: Global, b: Bounds, bytes: &[u8]) -> Result<(Kept, &[u8]), 
         Ok(count) => count,
         Err(n) => return Err(ReadError::Left(n)),
     };
-    let mut members = Vec::new(alloc);
-    let mut ends = Vec::new(alloc);
-    let rest = match classes(&texts, &mut members, &mut ends, count, rest) {
-        Ok(rest) => rest,
+    let (kept, rest) = match classes(alloc, &texts, count, rest) {
+        Ok(kept) => kept,
         Err(fault) => return Err(fault),
     };
     match end(rest) {
-        Ok(rest) => Ok(((members, ends), rest)),
+        Ok(rest) => Ok((kept, rest)),
         Err(n) => Err(ReadError::Left(n)),
     }
 }

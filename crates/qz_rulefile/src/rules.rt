@@ -1,6 +1,5 @@
 //! What a rule file says: classes of equivalent circuits within bounds.
 ghost use Rattle.std.specs.Prelude.{◌≡◌, ◌<◌, ◌≤◌, length, IfOk};
-ghost use Rattle.qz_circ.specs.Bounds.{IsLawful};
 ghost use Rattle.qz_circ.specs.Circuit.{Within};
 ghost use Rattle.qz_circ.specs.RuleFiles.{AreClasses, AreSound, numbered_class, numbered_member};
 

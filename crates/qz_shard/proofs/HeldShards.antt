@@ -14,10 +14,9 @@ use Rattle.std.proofs.lemmas.List.Folds.{list_any_at, list_any_none}
 use Rattle.std.proofs.lemmas.List.Quantifiers.{all_pairs_push}
 use Rattle.qz_circ.specs.Order.{all_circuits, circuit_at}
 use Rattle.qz_paths.proofs.Equivalences.{reflexive, symmetric, transitive}
-use Rattle.qz_finger.specs.Fingerprint.{fingerprint}
 use Rattle.qz_finger.proofs.Law.{one_fingerprint}
 use Rattle.qz_shard.specs.Journals.{AreEquivalentRanks, AreClassesBy, AreClassesOf, AddsMember}
-use Rattle.qz_shard.specs.Shards.{ShardParts, IsShard, IsAtHome, print_of, classes_with, different_prints}
+use Rattle.qz_shard.specs.Shards.{ShardParts, IsShard, IsAtHome, print_at, classes_with, different_prints}
 use Rattle.qz_shard.specs.Held.{IsLastBelow, IsHeldBy, HasMembers}
 use Rattle.qz_shard.proofs.Partitions as partition
 use Rattle.qz_shard.proofs.Zipped.{zip_by, zip_count}
@@ -60,34 +59,34 @@ module _ (s : ShardParts) (r : ℕ) (listed : r < length (all_circuits s.bounds)
 
 -- the fingerprints of the journal
 abbrev pub prints_of_journal : ShardParts → List ℕ
-prints_of_journal s = map (print_of s) s.journal
+prints_of_journal s = map (print_at s.bounds s.probe.seed) s.journal
 
 -- one of them is this one
 abbrev pub has_print : ShardParts → ℕ → Bool
 has_print s print = contains (from_list {R = nat_cmp} (prints_of_journal s)) print
 
 -- how many different ones there are with one more entry
-pub prints_with : (s : ShardParts) (r : ℕ) → different_prints (with_entry s r) ≡ cond (has_print s (print_of s r)) (different_prints s) (different_prints s + 1)
+pub prints_with : (s : ShardParts) (r : ℕ) → different_prints (with_entry s r) ≡ cond (has_print s (print_at s.bounds s.probe.seed r)) (different_prints s) (different_prints s + 1)
 prints_with s r =
-    ap (λ ks. len (from_list {R = nat_cmp} ks)) (map-append (print_of s) s.journal (r ∷ [])) ∙
-    ap len (from_list_push nat_cmp_total nat_cmp-IsAntisymmetric (prints_of_journal s) (print_of s r)) ∙
-    len-insert nat_cmp_total (from_list {R = nat_cmp} (prints_of_journal s)) (print_of s r)
+    ap (λ ks. len (from_list {R = nat_cmp} ks)) (map-append (print_at s.bounds s.probe.seed) s.journal (r ∷ [])) ∙
+    ap len (from_list_push nat_cmp_total nat_cmp-IsAntisymmetric (prints_of_journal s) (print_at s.bounds s.probe.seed r)) ∙
+    len-insert nat_cmp_total (from_list {R = nat_cmp} (prints_of_journal s)) (print_at s.bounds s.probe.seed r)
 
 -- an entry's fingerprint is one
-pub has_of_entry : (s : ShardParts) (x print : ℕ) → Contains s.journal x → print_of s x ≡ print → has_print s print ≡ true
+pub has_of_entry : (s : ShardParts) (x print : ℕ) → Contains s.journal x → print_at s.bounds s.probe.seed x ≡ print → has_print s print ≡ true
 has_of_entry s x print has is =
     contains-from_list_nat (prints_of_journal s) print ∙
-    list_any_at (λ y. nat_eq y print) (prints_of_journal s) has.0 (print_of s x) (let size = length-map s.journal (print_of s) in omega (arith, has.1))
-    (eq-eqb (get_or (prints_of_journal s) has.0 (print_of s x)) print (get_or-map (print_of s) s.journal has.0 x (print_of s x) has.1 ∙ ap (print_of s) has.2 ∙ is))
+    list_any_at (λ y. nat_eq y print) (prints_of_journal s) has.0 (print_at s.bounds s.probe.seed x) (let size = length-map s.journal (print_at s.bounds s.probe.seed) in omega (arith, has.1))
+    (eq-eqb (get_or (prints_of_journal s) has.0 (print_at s.bounds s.probe.seed x)) print (get_or-map (print_at s.bounds s.probe.seed) s.journal has.0 x (print_at s.bounds s.probe.seed x) has.1 ∙ ap (print_at s.bounds s.probe.seed) has.2 ∙ is))
 
 -- where no entry has it, it is none
-pub has_none : (s : ShardParts) (print : ℕ) → ((x : ℕ) → Contains s.journal x → print_of s x ≡ print → ⊥) → has_print s print ≡ false
+pub has_none : (s : ShardParts) (print : ℕ) → ((x : ℕ) → Contains s.journal x → print_at s.bounds s.probe.seed x ≡ print → ⊥) → has_print s print ≡ false
 has_none s print none =
     contains-from_list_nat (prints_of_journal s) print ∙
     list_any_none (λ y. nat_eq y print) (prints_of_journal s) (λ k d within.
-    let inside : k < length s.journal = let size = length-map s.journal (print_of s) in omega (arith, within) in
+    let inside : k < length s.journal = let size = length-map s.journal (print_at s.bounds s.probe.seed) in omega (arith, within) in
     elim (eqb_tells (get_or (prints_of_journal s) k d) print) [
-      | inl same ↦ absurd (none (get_or s.journal k 0) (Contains-get_or s.journal k 0 inside) (sym (get_or-map (print_of s) s.journal k 0 d inside) ∙ same.1))
+      | inl same ↦ absurd (none (get_or s.journal k 0) (Contains-get_or s.journal k 0 inside) (sym (get_or-map (print_at s.bounds s.probe.seed) s.journal k 0 d inside) ∙ same.1))
       | inr apart ↦ apart.0
     ])
 
@@ -107,9 +106,8 @@ module _ (s : ShardParts) (prints : List ℕ) (links : List (Option ℕ)) (membe
   same_on t u v = transitive s.bounds.q (circuit_at s.bounds t) (circuit_at s.bounds u) (circuit_at s.bounds v)
 
   -- equivalent ones have the same fingerprint
-  same_print : (t u : ℕ) → Same t u → print_of s t ≡ print_of s u
-  same_print t u same = subst (λ q. fingerprint s.probe.seed q (circuit_at s.bounds t) ≡ fingerprint s.probe.seed q (circuit_at s.bounds u)) (sym held.shard.qubits)
-      (one_fingerprint s.probe.seed s.bounds.q (circuit_at s.bounds t) (circuit_at s.bounds u) same)
+  same_print : (t u : ℕ) → Same t u → print_at s.bounds s.probe.seed t ≡ print_at s.bounds s.probe.seed u
+  same_print t u same = one_fingerprint s.probe.seed s.bounds.q (circuit_at s.bounds t) (circuit_at s.bounds u) same
 
   are : AreClassesBy Same s.journal members
   unfolding AreClassesOf
@@ -129,7 +127,7 @@ module _ (s : ShardParts) (prints : List ℕ) (links : List (Option ℕ)) (membe
       Contains-get_or (class k) 0 0 (omega (arith, has.1))
 
   -- an entry with a fingerprint is in a class that has it
-  class_of_print : (x print : ℕ) → Contains s.journal x → print_of s x ≡ print → (k : ℕ) × (k < length members) × (slice_index prints k ≡ print)
+  class_of_print : (x print : ℕ) → Contains s.journal x → print_at s.bounds s.probe.seed x ≡ print → (k : ℕ) × (k < length members) × (slice_index prints k ≡ print)
   class_of_print x print has is =
       let there = partition.covered Same same_self same_back same_on s.journal members are x has in
       (there.0, there.1, sym (held.own_prints there.0 x there.1 there.2) ∙ is)
@@ -156,11 +154,11 @@ module _ (s : ShardParts) (prints : List ℕ) (links : List (Option ℕ)) (membe
   )
 
   -- a class has a member with a fingerprint exactly where it has that fingerprint itself
-  any_is : (k print : ℕ) → k < length members → list_any (λ t. print_of s t == print) (class k) ≡ (slice_index prints k == print)
+  any_is : (k print : ℕ) → k < length members → list_any (λ t. print_at s.bounds s.probe.seed t == print) (class k) ≡ (slice_index prints k == print)
   any_is k print within = elim (eqb_tells (slice_index prints k) print) [
-    | inl same ↦ (let has = first_member k within in list_any_at (λ t. print_of s t == print) (class k) 0 0 (omega (arith, has.1))
-        (eq-eqb (print_of s (first k)) print (held.own_prints k (first k) within (first_member k within) ∙ same.1))) ∙ sym same.0
-    | inr apart ↦ list_any_none (λ t. print_of s t == print) (class k) (λ j d inside. elim (eqb_tells (print_of s (get_or (class k) j d)) print) [
+    | inl same ↦ (let has = first_member k within in list_any_at (λ t. print_at s.bounds s.probe.seed t == print) (class k) 0 0 (omega (arith, has.1))
+        (eq-eqb (print_at s.bounds s.probe.seed (first k)) print (held.own_prints k (first k) within (first_member k within) ∙ same.1))) ∙ sym same.0
+    | inr apart ↦ list_any_none (λ t. print_at s.bounds s.probe.seed t == print) (class k) (λ j d inside. elim (eqb_tells (print_at s.bounds s.probe.seed (get_or (class k) j d)) print) [
       | inl is ↦ absurd (apart.1 (sym (held.own_prints k (get_or (class k) j d) within (Contains-get_or (class k) j d inside)) ∙ is.1))
       | inr other ↦ other.0
     ]) ∙ sym apart.0
@@ -171,12 +169,12 @@ module _ (s : ShardParts) (prints : List ℕ) (links : List (Option ℕ)) (membe
   unfolding AreClassesOf
   held_counted print classes size are_too =
       ap (classes_with s print) (partition.classes_same Same s.journal classes members are_too held.partition) ∙
-      sym (zip_count (λ p. p == print) (λ list. list_any (λ t. print_of s t == print) list) prints members
-      (zip_by (λ p list. (p == print) ≡ list_any (λ t. print_of s t == print) list) prints members 0 [] size (λ k within. sym (any_is k print (omega arith)))))
+      sym (zip_count (λ p. p == print) (λ list. list_any (λ t. print_at s.bounds s.probe.seed t == print) list) prints members
+      (zip_by (λ p list. (p == print) ≡ list_any (λ t. print_at s.bounds s.probe.seed t == print) list) prints members 0 [] size (λ k within. sym (any_is k print (omega arith)))))
 
   module _ (r : ℕ) (listed : r < length (all_circuits s.bounds)) (absent : Contains s.journal r → ⊥) (home : IsAtHome s r) where
     -- the shard after r has joined class k
-    pub held_joined : (k : ℕ) (new : List ℕ) → k < length members → slice_index prints k ≡ print_of s r → Same r (first k) → AddsMember r (class k) new →
+    pub held_joined : (k : ℕ) (new : List ℕ) → k < length members → slice_index prints k ≡ print_at s.bounds s.probe.seed r → Same r (first k) → AddsMember r (class k) new →
         IsHeldBy (with_entry s r) prints links (set members k new) newest keys
     unfolding AreClassesOf
     held_joined k new within is same adds = record {
@@ -185,26 +183,26 @@ module _ (s : ShardParts) (prints : List ℕ) (links : List (Option ℕ)) (membe
       own_prints = λ j x inside has. own j x (omega (arith, inside, length-set members k new)) has;
       linked = λ j inside. held.linked j (omega (arith, inside, length-set members k new));
       last = λ print. subst (λ n. IsLastBelow prints print n (newest print)) (sym (length-set members k new)) (held.last print);
-      count = held.count ∙ sym (prints_with s r ∙ ap (λ b. cond b (different_prints s) (different_prints s + 1)) (has_of_class k (print_of s r) within is));
+      count = held.count ∙ sym (prints_with s r ∙ ap (λ b. cond b (different_prints s) (different_prints s + 1)) (has_of_class k (print_at s.bounds s.probe.seed r) within is));
     }
       where
         joined_classes : AreClassesBy Same (s.journal ++ r ∷ []) (set members k new)
         joined_classes = partition.joined Same same_self same_back same_on s.journal members are k r (first k) new within (first_member k within) same adds
 
-        own : (j x : ℕ) → j < length members → Contains (get_or (set members k new) j []) x → print_of s x ≡ slice_index prints j
+        own : (j x : ℕ) → j < length members → Contains (get_or (set members k new) j []) x → print_at s.bounds s.probe.seed x ≡ slice_index prints j
         own j x inside has = elim (cases_eq j k) [
           | inl at ↦ elim ((adds.exactly x).0 (subst (λ list. Contains list x) (ap (λ i. get_or (set members k new) i []) at ∙ get_or-set_same members k new [] within) has)) [
-            | inl old ↦ subst (λ i. print_of s x ≡ slice_index prints i) (sym at) (held.own_prints k x within old)
-            | inr now ↦ ap (print_of s) now ∙ sym is ∙ ap (slice_index prints) (sym at)
+            | inl old ↦ subst (λ i. print_at s.bounds s.probe.seed x ≡ slice_index prints i) (sym at) (held.own_prints k x within old)
+            | inr now ↦ ap (print_at s.bounds s.probe.seed) now ∙ sym is ∙ ap (slice_index prints) (sym at)
           ]
           | inr apart ↦ held.own_prints j x inside (subst (λ list. Contains list x) (get_or-set_other members k j new [] apart) has)
         ]
 
     -- the shard after a class of r was opened
     pub held_opened : (newest' : ℕ → Option ℕ) → length prints ≡ length members → length links ≡ length members →
-        ((k : ℕ) → k < length members → slice_index prints k ≡ print_of s r → Same r (first k) → ⊥) →
-        ((p : ℕ) → newest' p ≡ (if nat_eq (print_of s r) p then Some (length members) else newest p)) →
-        IsHeldBy (with_entry s r) (prints ++ print_of s r ∷ []) (links ++ newest (print_of s r) ∷ []) (members ++ (r ∷ []) ∷ []) newest' (keys + (if is_some (newest (print_of s r)) then 0 else 1))
+        ((k : ℕ) → k < length members → slice_index prints k ≡ print_at s.bounds s.probe.seed r → Same r (first k) → ⊥) →
+        ((p : ℕ) → newest' p ≡ (if nat_eq (print_at s.bounds s.probe.seed r) p then Some (length members) else newest p)) →
+        IsHeldBy (with_entry s r) (prints ++ print_at s.bounds s.probe.seed r ∷ []) (links ++ newest (print_at s.bounds s.probe.seed r) ∷ []) (members ++ (r ∷ []) ∷ []) newest' (keys + (if is_some (newest (print_at s.bounds s.probe.seed r)) then 0 else 1))
     unfolding AreClassesOf
     held_opened newest' print_size link_size none updated = record {
       shard = shard_with s r listed absent home held.shard;
@@ -214,7 +212,7 @@ module _ (s : ShardParts) (prints : List ℕ) (links : List (Option ℕ)) (membe
         | inr at_end ↦
             let here : length members ≡ j = omega (arith, inside, size) in
             let only : r ≡ x = partition.contains_one r x (subst (λ list. Contains list x) (get_or_push members (r ∷ []) [] j here) has) in
-            ap (print_of s) (sym only) ∙ sym (get_or_push prints print 0 j (print_size ∙ here))
+            ap (print_at s.bounds s.probe.seed) (sym only) ∙ sym (get_or_push prints print 0 j (print_size ∙ here))
       ];
       linked = λ j inside. elim (cases_lt j (length members)) [
         | inl old ↦ old_link j old
@@ -225,7 +223,7 @@ module _ (s : ShardParts) (prints : List ℕ) (links : List (Option ℕ)) (membe
     }
       where
         print : ℕ
-        print = print_of s r
+        print = print_at s.bounds s.probe.seed r
 
         size : length (members ++ (r ∷ []) ∷ []) ≡ length members + 1
         size = length-append members ((r ∷ []) ∷ [])

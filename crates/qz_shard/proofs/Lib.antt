@@ -1,7 +1,6 @@
 pub mod Zipped
 pub mod Partitions
 pub mod Insertion
-pub mod Ranks
 pub mod Walk
 pub mod ClassParts
 pub mod HeldShards

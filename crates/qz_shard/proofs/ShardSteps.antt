@@ -10,7 +10,7 @@ use Rattle.qz_circ.specs.Bounds.{IsLawful}
 use Rattle.qz_circ.specs.Order.{all_circuits}
 use Rattle.qz_shard.specs.declared.class.Class.{Class}
 use Rattle.qz_shard.specs.Journals.{AreEquivalentRanks, AreClassesOf, AreClassesBy}
-use Rattle.qz_shard.specs.Shards.{ShardParts, IsAtHome, print_of, classes_with}
+use Rattle.qz_shard.specs.Shards.{ShardParts, IsAtHome, print_at, classes_with}
 use Rattle.qz_shard.specs.Held.{prints_in, links_in, members_in, IsHeldBy, IsHeld, HasMembers, IsClassWith, IsOpenTo, Puts}
 use Rattle.qz_shard.proofs.ClassParts.{members_read}
 use Rattle.qz_shard.proofs.HeldShards.{with_entry, held_members, held_class, held_counted, held_joined, held_opened}
@@ -77,7 +77,7 @@ module _ {S : Type 0} (s : ShardParts) (classes : List Class) (newest : IndexMap
       omega (arith, search_counted print lists are, all, counted))
 
   -- what is kept after a rank was put in
-  pub held_after : (r print : ℕ) (found : Option ℕ) → print ≡ print_of s r → r < length (all_circuits s.bounds) → (Contains s.journal r → ⊥) → IsAtHome s r → IsClassWith s.bounds classes print r found →
+  pub held_after : (r print : ℕ) (found : Option ℕ) → print ≡ print_at s.bounds s.probe.seed r → r < length (all_circuits s.bounds) → (Contains s.journal r → ⊥) → IsAtHome s r → IsClassWith s.bounds classes print r found →
       (journal' : List ℕ) (classes' : List Class) (newest' : IndexMap ℕ ℕ S) → Puts r print s.journal journal' classes classes' newest newest' found → IsHeld (with_journal s journal') classes' newest'
   held_after r print (Some k) is_print listed absent home is journal' classes' newest' puts =
       subst (λ n. IsHeld (with_journal s journal') classes' n) (sym puts.1)
@@ -85,8 +85,8 @@ module _ {S : Type 0} (s : ShardParts) (classes : List Class) (newest : IndexMap
       (ap (with_journal s) puts.0.entries) puts.0.prints puts.0.links puts.0.members refl
       (held_joined s (prints_in classes) (links_in classes) (members_in classes) (get nat_eq newest) (index_map_len newest) held r listed absent home k puts.0.class (omega (arith, is.0, members_size)) (is.1 ∙ is_print) is.2 puts.0.adds))
   held_after r print None is_print listed absent home is journal' classes' newest' puts =
-      held_as (with_entry s r) (with_journal s journal') (prints_in classes ++ print_of s r ∷ []) (prints_in classes') (links_in classes ++ get nat_eq newest (print_of s r) ∷ []) (links_in classes') (members_in classes ++ (r ∷ []) ∷ []) (members_in classes') (get nat_eq newest')
-      (index_map_len newest + (if is_some (get nat_eq newest (print_of s r)) then 0 else 1)) (index_map_len newest')
+      held_as (with_entry s r) (with_journal s journal') (prints_in classes ++ print_at s.bounds s.probe.seed r ∷ []) (prints_in classes') (links_in classes ++ get nat_eq newest (print_at s.bounds s.probe.seed r) ∷ []) (links_in classes') (members_in classes ++ (r ∷ []) ∷ []) (members_in classes') (get nat_eq newest')
+      (index_map_len newest + (if is_some (get nat_eq newest (print_at s.bounds s.probe.seed r)) then 0 else 1)) (index_map_len newest')
       (ap (with_journal s) puts.entries) (puts.prints ∙ ap (λ p. prints_in classes ++ p ∷ []) is_print) (puts.links ∙ ap (λ p. links_in classes ++ get nat_eq newest p ∷ []) is_print) puts.members
       (puts.keys ∙ ap (λ p. index_map_len newest + (if is_some (get nat_eq newest p) then 0 else 1)) is_print)
       (held_opened s (prints_in classes) (links_in classes) (members_in classes) (get nat_eq newest) (index_map_len newest) held r listed absent home (get nat_eq newest') prints_size links_size
@@ -123,7 +123,7 @@ module _ (s : ShardParts) (number : s.number < 16) (lawful : IsLawful s.bounds) 
     own_prints = λ k r within has. absurd (omega arith);
     linked = λ k within. absurd (omega arith);
     last = λ print j below same. absurd (omega arith);
-    count = sym (ap (λ journal. len (from_list {R = nat_cmp} (map (print_of s) journal))) empty ∙ len-empty nat_cmp);
+    count = sym (ap (λ journal. len (from_list {R = nat_cmp} (map (print_at s.bounds s.probe.seed) journal))) empty ∙ len-empty nat_cmp);
   }
 
   pub held_none : {S : Type 0} (classes : List Class) (newest : IndexMap ℕ ℕ S) → classes ≡ [] → newest.entries ≡ [] → IsHeld s classes newest

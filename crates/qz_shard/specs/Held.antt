@@ -6,7 +6,7 @@ use Rattle.qz_circ.specs.Circuit.{Limits}
 use Rattle.qz_circ.specs.Order.{all_circuits}
 use Rattle.qz_shard.specs.declared.class.Class.{Class}
 use Rattle.qz_shard.specs.Journals.{AreClassesOf, AreEquivalentRanks, AddsMember}
-use Rattle.qz_shard.specs.Shards.{ShardParts, IsShard, print_of, different_prints}
+use Rattle.qz_shard.specs.Shards.{ShardParts, IsShard, print_at, different_prints}
 
 -- the fingerprints of the classes
 abbrev pub prints_in : List Class → List ℕ
@@ -47,7 +47,7 @@ pub record HasMembers (b : Limits) (members : List ℕ) : Type 0 where
 pub record IsHeldBy (s : ShardParts) (prints : List ℕ) (links : List (Option ℕ)) (members : List (List ℕ)) (newest : ℕ → Option ℕ) (keys : ℕ) : Type 0 where
   pub shard : IsShard s
   pub partition : AreClassesOf s.bounds s.journal members
-  pub own_prints : (k r : ℕ) → k < length members → Contains (slice_index_or members k []) r → print_of s r ≡ slice_index prints k
+  pub own_prints : (k r : ℕ) → k < length members → Contains (slice_index_or members k []) r → print_at s.bounds s.probe.seed r ≡ slice_index prints k
   pub linked : (k : ℕ) → k < length members → IsLastBelow prints (slice_index prints k) k (slice_index_or links k None)
   pub last : (print : ℕ) → IsLastBelow prints print (length members) (newest print)
   pub count : keys ≡ different_prints s

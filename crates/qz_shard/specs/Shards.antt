@@ -17,12 +17,16 @@ pub record ShardParts : Type 0 where
   pub journal : List ℕ
 
 -- the fingerprint of the circuit with this rank
-abbrev pub print_of : ShardParts → ℕ → ℕ
-print_of s r = fingerprint s.probe.seed s.probe.q (circuit_at s.bounds r)
+abbrev pub print_at : Limits → ℕ → ℕ → ℕ
+print_at b seed r = fingerprint seed b.q (circuit_at b r)
 
--- the rank belongs into this shard: its fingerprint has the shard's number as its remainder by 16
+-- the number of the shard in which it belongs: the fingerprint's remainder by 16
+abbrev pub home_of : Limits → ℕ → ℕ → ℕ
+home_of b seed r = print_at b seed r % 16
+
+-- the rank belongs into this shard
 abbrev pub IsAtHome : ShardParts → ℕ → Type 0
-IsAtHome s r = print_of s r % 16 ≡ s.number
+IsAtHome s r = home_of s.bounds s.probe.seed r ≡ s.number
 
 -- the journal lists different ranks of circuits within the bounds, all of which belong into this shard
 pub record IsShard (s : ShardParts) : Type 0 where
@@ -35,8 +39,8 @@ pub record IsShard (s : ShardParts) : Type 0 where
 
 -- how many of the classes have a member with this fingerprint
 abbrev pub classes_with : ShardParts → ℕ → List (List ℕ) → ℕ
-classes_with s print classes = count_by (λ class. list_any (λ r. print_of s r == print) class) classes
+classes_with s print classes = count_by (λ class. list_any (λ r. print_at s.bounds s.probe.seed r == print) class) classes
 
 -- how many different fingerprints there are in the journal
 abbrev pub different_prints : ShardParts → ℕ
-different_prints s = len (from_list {R = nat_cmp} (map (print_of s) s.journal))
+different_prints s = len (from_list {R = nat_cmp} (map (print_at s.bounds s.probe.seed) s.journal))

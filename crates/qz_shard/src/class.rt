@@ -15,6 +15,13 @@ pub(crate) struct Class {
     pub(crate) members: SmallVec<u64, 2>,
 }
 
+// A rank that comes to a shard, and the fingerprint of its circuit.
+#[derive(Clone, Copy)]
+pub(crate) struct Arrival {
+    pub(crate) rank: u64,
+    pub(crate) print: u64,
+}
+
 impl Class {
     // The rank of the first of its circuits.
     pub(crate) fn first(&self) -> u64

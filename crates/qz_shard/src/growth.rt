@@ -3,17 +3,17 @@ ghost use Rattle.std.specs.Prelude.{◌≡◌, [], ◌∷◌, OnOk, OnErr, IfSom
 ghost use Rattle.indexmap.specs.IndexMap.{IsUnchanged};
 ghost use Rattle.qz_shard.specs.Held.{IsOpenTo, Keeps, Joins, Opens, Puts};
 
-use crate::class::{Class, add_member};
+use crate::class::{Arrival, Class, add_member};
 use indexmap::IndexMap;
 use qz_circ::Memory;
 use smallvec::SmallVec;
 use std::alloc::Global;
 
 // Adds a rank to class number k and to the journal. After an error both are as they were.
-fn join(journal: &mut Vec<u64>, classes: &mut Vec<Class>, k: usize, r: u64) -> Result<(), Memory>
-    requires { IsOpenTo r classes.old.items k }
-    ensures ok { OnOk result (Joins k r journal.old.items journal.new.items classes.old.items classes.new.items) }
-    ensures err { OnErr result (Keeps journal.old.items journal.new.items classes.old.items classes.new.items) }
+fn join(journal: &mut Vec<u64>, classes: &mut [Class], k: usize, r: u64) -> Result<(), Memory>
+    requires { IsOpenTo r classes.old k }
+    ensures ok { OnOk result (Joins k r journal.old.items journal.new.items classes.old classes.new) }
+    ensures err { OnErr result (Keeps journal.old.items journal.new.items classes.old classes.new) }
 {
     if journal.reserve(1).is_err() {
         return Err(Memory);
@@ -38,10 +38,9 @@ fn open(
     journal: &mut Vec<u64>,
     classes: &mut Vec<Class>,
     newest: &mut IndexMap<u64, usize>,
-    r: u64,
-    print: u64,
+    new: Arrival,
 ) -> Result<(), Memory>
-    ensures ok { OnOk result (Opens r print journal.old.items journal.new.items classes.old.items classes.new.items newest.old newest.new) }
+    ensures ok { OnOk result (Opens new.rank new.print journal.old.items journal.new.items classes.old.items classes.new.items newest.old newest.new) }
     ensures err { OnErr result (Keeps journal.old.items journal.new.items classes.old.items classes.new.items) }
     ensures err_newest { OnErr result (IsUnchanged newest.old newest.new) }
 {
@@ -51,15 +50,15 @@ fn open(
     if classes.reserve(1).is_err() {
         return Err(Memory);
     }
-    let Ok(before) = newest.insert(print, classes.len()) else {
+    let Ok(before) = newest.insert(new.print, classes.len()) else {
         return Err(Memory);
     };
     classes.push_reserved(Class {
-        print,
+        print: new.print,
         before,
-        members: single(alloc, r),
+        members: single(alloc, new.rank),
     });
-    journal.push_reserved(r);
+    journal.push_reserved(new.rank);
     Ok(())
 }
 
@@ -70,17 +69,16 @@ pub(crate) fn put(
     journal: &mut Vec<u64>,
     classes: &mut Vec<Class>,
     newest: &mut IndexMap<u64, usize>,
-    r: u64,
-    print: u64,
+    new: Arrival,
     found: Option<usize>,
 ) -> Result<(), Memory>
-    requires { IfSome found (IsOpenTo r classes.old.items) }
-    ensures ok { OnOk result (Puts r print journal.old.items journal.new.items classes.old.items classes.new.items newest.old newest.new found) }
+    requires { IfSome found (IsOpenTo new.rank classes.old.items) }
+    ensures ok { OnOk result (Puts new.rank new.print journal.old.items journal.new.items classes.old.items classes.new.items newest.old newest.new found) }
     ensures err { OnErr result (Keeps journal.old.items journal.new.items classes.old.items classes.new.items) }
     ensures err_newest { OnErr result (IsUnchanged newest.old newest.new) }
 {
     match found {
-        Some(k) => join(journal, classes, k, r),
-        None => open(alloc, journal, classes, newest, r, print),
+        Some(k) => join(journal, classes, k, new.rank),
+        None => open(alloc, journal, classes, newest, new),
     }
 }

@@ -1,5 +1,5 @@
 //! The class of a circuit among those with its fingerprint.
-ghost use Rattle.std.specs.Prelude.{◌≡◌, ◌↔◌, ◌+◌, ◌<◌, ◌≤◌, ◌==◌, ℕ, nat_eq, length, count_by, take, slice_index, All, IsTrue, IfOk};
+ghost use Rattle.std.specs.Prelude.{◌≡◌, ◌↔◌, ◌+◌, ◌<◌, ◌≤◌, ◌==◌, nat_eq, length, count_by, take, slice_index, All, IsTrue, IfOk};
 ghost use Rattle.indexmap.specs.IndexMap.{get};
 ghost use Rattle.qz_circ.specs.Circuit.{Circuit};
 ghost use Rattle.qz_circ.specs.Equivalence.{Equivalent};
@@ -7,7 +7,7 @@ ghost use Rattle.qz_circ.specs.Order.{all_circuits, circuit_at};
 ghost use Rattle.qz_matrix.specs.Entries.{StandsFor};
 ghost use Rattle.qz_shard.specs.Held.{prints_in, members_in, AreLinked, HasMembers, IsLastBelow, IsClassUpTo, IsClassWith};
 
-use crate::class::Class;
+use crate::class::{Arrival, Class};
 use indexmap::IndexMap;
 use qz_circ::{Bounds, Memory, Steps, unrank};
 use qz_equiv::decide_matrices;
@@ -77,27 +77,26 @@ fn find_from<L: Ledger>(
     Ok(None)
 }
 
-// The class whose circuits are equivalent to the one with rank r, among those with the fingerprint. No class is asked twice, and
+// The class whose circuits are equivalent to the one that comes, among those with its fingerprint. No class is asked twice, and
 // none with another fingerprint.
 pub(crate) fn find_class<L: Ledger>(
     alloc: Global,
     b: Bounds,
     classes: &[Class],
     newest: &IndexMap<u64, usize>,
-    r: u64,
-    print: u64,
+    new: Arrival,
     steps: &mut Steps<L>,
 ) -> Result<Option<usize>, Memory>
-    requires rank { r < length (all_circuits b) }
+    requires rank { new.rank < length (all_circuits b) }
     requires members { All (HasMembers b) (members_in classes.now) }
     requires linked { AreLinked classes.now }
-    requires newest { IsLastBelow (prints_in classes.now) print (length classes.now) (get nat_eq newest.now print) }
-    ensures found { IfOk result (IsClassWith b classes.now print r) }
+    requires newest { IsLastBelow (prints_in classes.now) new.print (length classes.now) (get nat_eq newest.now new.print) }
+    ensures found { IfOk result (IsClassWith b classes.now new.print new.rank) }
     ensures kept { steps.old ≤ steps.new }
-    ensures counted { steps.new ≤ steps.old + count_by (λ p. p == print) (prints_in classes.now) }
+    ensures counted { steps.new ≤ steps.old + count_by (λ p. p == new.print) (prints_in classes.now) }
 {
-    match newest.get(&print) {
-        Some(last) => find_from(alloc, b, classes, *last, r, steps),
+    match newest.get(&new.print) {
+        Some(last) => find_from(alloc, b, classes, *last, new.rank, steps),
         None => Ok(None),
     }
 }

@@ -1,11 +1,10 @@
 //! A shard: a journal of circuits and their classes.
-ghost use Rattle.std.specs.Prelude.{◌≡◌, ◌+◌, ◌<◌, ◌≤◌, ◌++◌, ◌∷◌, [], ℕ, List, length, nat_eq, slice_index, slice_index_or, Contains, IfOk, OnOk, OnErr};
-ghost use Rattle.qz_circ.specs.Order.{all_circuits, circuit_at};
-ghost use Rattle.qz_finger.specs.Fingerprint.{fingerprint};
+ghost use Rattle.std.specs.Prelude.{◌≡◌, ◌+◌, ◌<◌, ◌≤◌, ◌++◌, ◌∷◌, [], ℕ, List, length, slice_index, slice_index_or, Contains, IfOk, OnOk, OnErr};
+ghost use Rattle.qz_circ.specs.Order.{all_circuits};
 ghost use Rattle.qz_shard.specs.Journals.{AreClassesOf};
-ghost use Rattle.qz_shard.specs.Shards.{ShardParts, IsShard, IsAtHome, print_of, classes_with, different_prints};
+ghost use Rattle.qz_shard.specs.Shards.{ShardParts, IsShard, IsAtHome, print_at, classes_with, different_prints};
 
-use crate::class::Class;
+use crate::class::{Arrival, Class};
 use crate::growth::put;
 use crate::search::find_class;
 use indexmap::IndexMap;
@@ -70,7 +69,7 @@ impl Shard {
         ensures appended { OnOk result (self.new ≡ record self.old { journal = self.old.journal ++ r ∷ [] }) }
         ensures err { OnErr result (self.new ≡ self.old) }
         ensures kept { steps.old ≤ steps.new }
-        ensures counted { (classes : List (List ℕ)) → AreClassesOf self.old.bounds self.old.journal classes → steps.new ≤ steps.old + classes_with self.old (print_of self.old r) classes }
+        ensures counted { (classes : List (List ℕ)) → AreClassesOf self.old.bounds self.old.journal classes → steps.new ≤ steps.old + classes_with self.old (print_at self.old.bounds self.old.probe.seed r) classes }
     {
         let circuit = unrank(self.alloc, r, self.bounds)?;
         let print = self.probe.finger(&circuit);
@@ -88,20 +87,20 @@ impl Shard {
         requires listed { r < length (all_circuits self.old.bounds) }
         requires new { Contains self.old.journal r → ⊥ }
         requires home { IsAtHome self.old r }
-        requires print { print ≡ print_of self.old r }
+        requires print { print ≡ print_at self.old.bounds self.old.probe.seed r }
         ensures place { IfOk result (λ place. place ≡ length self.old.journal) }
         ensures appended { OnOk result (self.new ≡ record self.old { journal = self.old.journal ++ r ∷ [] }) }
         ensures err { OnErr result (self.new ≡ self.old) }
         ensures kept { steps.old ≤ steps.new }
         ensures counted { (classes : List (List ℕ)) → AreClassesOf self.old.bounds self.old.journal classes → steps.new ≤ steps.old + classes_with self.old print classes }
     {
+        let new = Arrival { rank: r, print };
         let found = find_class(
             self.alloc,
             self.bounds,
             &self.classes,
             &self.newest,
-            r,
-            print,
+            new,
             steps,
         )?;
         let place = self.journal.len() as u64;
@@ -110,8 +109,7 @@ impl Shard {
             &mut self.journal,
             &mut self.classes,
             &mut self.newest,
-            r,
-            print,
+            new,
             found,
         )?;
         Ok(place)

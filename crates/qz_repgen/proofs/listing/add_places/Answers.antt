@@ -2,7 +2,7 @@ use Rattle.std.proofs.Common.{◌≡◌, ◌+◌, ◌<◌, ◌≤◌, ◌++◌, 
 use Rattle.std.specs.Prelude.{slice_index}
 use Rattle.std.proofs.lemmas.Bool.Decides.{nat_tests}
 use Rattle.qz_repgen.specs.declared.listing.Place.{Place}
-use Rattle.qz_repgen.specs.Listing.{AddsRow}
+use Rattle.qz_repgen.specs.Listing.{AddsPlacesOf}
 use Rattle.qz_repgen.proofs.ListingLemmas.{row_same, row_more}
 use Rattle.qz_repgen.proofs.listing.add_places.Goals as goal
 use Rattle.qz_repgen.proofs.listing.add_places.Goals.{then-class-gt1+else-is_err, else-class-gt1}
@@ -24,5 +24,5 @@ loop-i-preserved c classes are =
       | else-class-gt1 w ↦
           let few : length (get_or classes i []) ≤ 1 = subst (λ l. length l ≤ 1) class w.if-class-gt1.false in
           let single : nat_lt 1 (length (get_or classes i [])) ≡ false = grind (arith, nat_tests) in
-          subst (λ v. AddsRow k classes (take (i + 1) classes) old v.items) (sym w.places-is) (row_same k classes i inside old c.loop-i.places.items (c.loop-i.invariant classes are) single)
+          subst (λ v. AddsPlacesOf k classes (take (i + 1) classes) old v.items) (sym w.places-is) (row_same k classes i inside old c.loop-i.places.items (c.loop-i.invariant classes are) single)
     ]

@@ -6,7 +6,7 @@ use Rattle.qz_repgen.proofs.RoundLemmas.{IsShorter, none_shorter, number_shorter
 use Rattle.qz_repgen.proofs.rounds.all_rounds.Goals as goal
 
 pub loop-k-init : goal.loop-k-init
-loop-k-init g c = (c.in_ok-begin.ensures, none_shorter c.args.b c.n-k-end.ensures.lawful)
+loop-k-init g c = (c.requires.held, none_shorter c.args.b c.n-k-end.ensures.lawful)
 
 pub overflow_add-representatives : goal.overflow_add-representatives
 overflow_add-representatives g c =
@@ -20,7 +20,7 @@ loop-k-preserved g c =
 pub returns-clause-held : goal.returns-clause-held
 returns-clause-held g c =
     let ended : c.loop-k.k ≡ c.args.b.n = omega (arith, c.n-k-end.ensures.value) in
-    all_kept c.args.b c.n-k-end.ensures.lawful c.args.probe.now.seed c.loop-k.shards.items (subst (λ k. ShardsHold c.args.b c.args.probe.now.seed (IsKeptUpTo c.args.b k) c.loop-k.shards.items) ended c.loop-k.invariant.0)
+    all_kept c.args.b c.n-k-end.ensures.lawful c.args.probe.now.seed c.loop-k.shards (subst (λ k. ShardsHold c.args.b c.args.probe.now.seed (IsKeptUpTo c.args.b k) c.loop-k.shards) ended c.loop-k.invariant.0)
 
 pub returns-clause-number : goal.returns-clause-number
 returns-clause-number g c =

@@ -6,4 +6,4 @@ use Rattle.qz_repgen.proofs.rounds.all_rounds.Given as goal
 
 -- the kept circuits of at most k gates are in the shards, and the representatives of fewer are counted
 abbrev pub invariant-loop-k : goal.invariant-loop-k
-invariant-loop-k g l = ShardsHold l.b l.probe.seed (IsKeptUpTo l.b l.k) l.shards.items × IsNumberOf (IsShorter l.b l.k) l.representatives
+invariant-loop-k g l = ShardsHold l.b l.probe.seed (IsKeptUpTo l.b l.k) l.shards × IsNumberOf (IsShorter l.b l.k) l.representatives

@@ -3,20 +3,20 @@ use Rattle.std.specs.Prelude.{◌↔◌}
 use Rattle.std.proofs.lemmas.Result.{on_ok_weaker}
 use Rattle.qz_circ.proofs.CircuitPlaces.{circuit_at-zero}
 use Rattle.qz_finger.specs.Fingerprint.{fingerprint}
+use Rattle.qz_shard.specs.Shards.{print_at}
 use Rattle.qz_repgen.specs.Rounds.{IsKeptUpTo}
-use Rattle.qz_repgen.specs.Journals.{print_at}
 use Rattle.qz_repgen.proofs.RoundSteps.{some_circuit, empty_kept, only_empty}
 use Rattle.qz_repgen.proofs.ShardLemmas.{empty_held, ready, held_more, held_same}
 use Rattle.qz_repgen.proofs.rounds.begin.Goals as goal
 
 pub take_in-requires-clause-number : goal.take_in-requires-clause-number
-take_in-requires-clause-number g c = (empty_held c.args.b c.args.probe.now c.requires.qubits c.args.shards.now.items c.requires.empty).are.number
+take_in-requires-clause-number g c = (empty_held c.args.b c.args.probe.now c.requires.qubits c.args.shards.now c.requires.empty).are.number
 
 pub take_in-requires-clause-ready : goal.take_in-requires-clause-ready
 take_in-requires-clause-ready g c =
     let print : c.finger-print.result ≡ print_at c.args.b c.args.probe.now.seed 0 = c.finger-print.ensures ∙ (λ i. fingerprint c.args.probe.now.seed (c.requires.qubits i) (sym (circuit_at-zero c.args.b) i)) in
-    ready c.args.b c.args.probe.now.seed (λ r. ⊥) c.args.shards.now.items (empty_held c.args.b c.args.probe.now c.requires.qubits c.args.shards.now.items c.requires.empty) 0 c.finger-print.result print (λ none. none)
-    (some_circuit c.args.b c.requires.lawful)
+    ready c.args.b c.args.probe.now.seed (λ r. ⊥) c.args.shards.now (empty_held c.args.b c.args.probe.now c.requires.qubits c.args.shards.now c.requires.empty) 0 c.finger-print.result print (λ none. none)
+    (some_circuit c.args.b)
 
 pub returns : goal.returns
 returns g c =
@@ -28,6 +28,6 @@ returns g c =
       λ h. inr (only_empty b c.requires.lawful r h),
     ) in
     on_ok_weaker c.take_in.result
-    (λ adds. held_same b seed (λ r. ⊥ ⊎ (0 ≡ r)) (IsKeptUpTo b 0) c.take_in.new.shards.items same
-    (held_more b seed (λ r. ⊥) c.args.shards.now.items (empty_held b c.args.probe.now c.requires.qubits c.args.shards.now.items c.requires.empty) 0 c.finger-print.result print (λ none. none) c.take_in.new.shards.items adds))
+    (λ adds. held_same b seed (λ r. ⊥ ⊎ (0 ≡ r)) (IsKeptUpTo b 0) c.take_in.new.shards same
+    (held_more b seed (λ r. ⊥) c.args.shards.now (empty_held b c.args.probe.now c.requires.qubits c.args.shards.now c.requires.empty) 0 c.finger-print.result print (λ none. none) c.take_in.new.shards adds))
     c.take_in.ensures

@@ -1,7 +1,7 @@
 use Rattle.std.proofs.Common.{length, ap, ◌∙◌, arith}
 use Rattle.qz_circ.specs.Circuit.{Limits}
 use Rattle.qz_circ.proofs.BoundsLemmas.{in_range}
-use Rattle.qz_rulefile.proofs.SoundMembers.{on_qubits}
+use Rattle.qz_circ.proofs.MoreParameters.{on_qubits}
 use Rattle.qz_rulefile.proofs.soundness.matrix_of.Goals as goal
 
 pub of-requires-clause-qubits : goal.of-requires-clause-qubits

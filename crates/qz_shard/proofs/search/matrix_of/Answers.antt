@@ -1,7 +1,7 @@
 use Rattle.std.proofs.Common.{arith, ap, length, sym, subst}
 use Rattle.qz_circ.proofs.BoundsLemmas.{in_range}
 use Rattle.qz_circ.specs.Circuit.{Within}
-use Rattle.qz_shard.proofs.Ranks.{on_qubits}
+use Rattle.qz_circ.proofs.MoreParameters.{on_qubits}
 use Rattle.qz_shard.proofs.search.matrix_of.Goals as goal
 
 -- a circuit within the bounds has a matrix

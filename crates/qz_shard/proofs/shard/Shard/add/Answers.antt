@@ -1,6 +1,6 @@
 use Rattle.std.proofs.Common.{sym, subst}
 use Rattle.qz_circ.specs.Circuit.{Within}
-use Rattle.qz_shard.proofs.Ranks.{on_qubits}
+use Rattle.qz_circ.proofs.MoreParameters.{on_qubits}
 use Rattle.qz_shard.proofs.shard.Shard.add.Goals as goal
 
 -- the circuit has a fingerprint

@@ -1,6 +1,6 @@
 use Rattle.std.proofs.Common.{◌≡◌, ◌<◌, length, sym, subst, All, Contains}
 use Rattle.qz_circ.specs.Order.{all_circuits}
-use Rattle.qz_shard.specs.Shards.{ShardParts, IsAtHome, print_of}
+use Rattle.qz_shard.specs.Shards.{ShardParts, IsAtHome, print_at}
 use Rattle.qz_shard.specs.Held.{HasMembers, members_in, IsClassWith}
 use Rattle.qz_shard.proofs.ShardSteps.{search_members, steps_counted, open_to, held_after}
 use Rattle.qz_shard.proofs.shard.Shard.add_with_print.Goals as goal
@@ -40,7 +40,7 @@ pub invariant_of-self-2 : goal.invariant_of-self-2
 invariant_of-self-2 g c =
     let s : ShardParts = record { number = c.self.inside.number; bounds = c.self.inside.bounds; probe = c.self.inside.probe; journal = c.self.inside.journal.items } in
     held_after s c.self.inside.classes.items c.self.inside.newest c.self.invariant c.args.r c.args.print c.in_ok-found.found
-    (subst (λ x. c.args.print ≡ print_of x c.args.r) (sym c.self.view_is) c.requires.print)
+    (subst (λ x. c.args.print ≡ print_at x.bounds x.probe.seed c.args.r) (sym c.self.view_is) c.requires.print)
     (subst (λ x. c.args.r < length (all_circuits x.bounds)) (sym c.self.view_is) c.requires.listed)
     (subst (λ x. Contains x.journal c.args.r → ⊥) (sym c.self.view_is) c.requires.new)
     (subst (λ x. IsAtHome x c.args.r) (sym c.self.view_is) c.requires.home)

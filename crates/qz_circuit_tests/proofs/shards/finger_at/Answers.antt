@@ -1,8 +1,8 @@
 use Rattle.std.proofs.Common.{sym, subst, rules}
 use Rattle.qz_circ.specs.Bounds.{IsLawful}
 use Rattle.qz_circ.specs.Circuit.{Within}
-use Rattle.qz_shard.proofs.Ranks.{on_qubits}
-use Rattle.qz_circuit_tests.proofs.shards.print_at.Goals as goal
+use Rattle.qz_circ.proofs.MoreParameters.{on_qubits}
+use Rattle.qz_circuit_tests.proofs.shards.finger_at.Goals as goal
 
 pub finger-requires : goal.finger-requires
 finger-requires c =

@@ -1,8 +1,8 @@
 use Rattle.std.proofs.Common.{sym, subst, rules}
 use Rattle.qz_circ.specs.Bounds.{IsLawful}
 use Rattle.qz_circ.specs.Circuit.{Within}
-use Rattle.qz_repgen.proofs.LowerLaws.{on_qubits}
-use Rattle.qz_repgen.proofs.front.Start.go_to.Goals as goal
+use Rattle.qz_circ.proofs.MoreParameters.{on_qubits}
+use Rattle.qz_repgen.proofs.fingerprints.CircuitValues.go_to.Goals as goal
 
 -- the circuit is on the probe's qubits
 pub values-requires : goal.values-requires

@@ -3,7 +3,7 @@ use Rattle.std.specs.Prelude.{Some, slice_get}
 use Rattle.qz_circ.specs.Circuit.{gates_of}
 use Rattle.qz_circ.proofs.RankLemmas.{some_gate}
 use Rattle.qz_repgen.proofs.LastGates.{number_of_last, last_acts, last_has, with_last}
-use Rattle.qz_repgen.proofs.front.last_gate.Goals as goal
+use Rattle.qz_repgen.proofs.fingerprints.last_gate.Goals as goal
 
 pub nonzero_rem-number : goal.nonzero_rem-number
 nonzero_rem-number c = some_gate c.args.b c.gates.ensures.lawful c.gates.result c.gates.ensures.value

@@ -4,8 +4,8 @@ ghost use Rattle.qz_circ.specs.Circuit.{ActsBelow, HasBelow};
 ghost use Rattle.qz_circ.specs.Classes.{without_last};
 ghost use Rattle.qz_circ.specs.Order.{all_circuits, circuit_at};
 ghost use Rattle.qz_finger.specs.Sums.{Extends};
-ghost use Rattle.qz_repgen.specs.Journals.{print_at};
-ghost use Rattle.qz_repgen.specs.Shards.{IsStart, IsFront};
+ghost use Rattle.qz_repgen.specs.Shards.{HoldsValues, HoldsExtensions};
+ghost use Rattle.qz_shard.specs.Shards.{print_at};
 
 use qz_circ::{Bounds, Memory, Op, drop_last_rank, op_of, unrank};
 use qz_finger::{Extensions, Probe, Values};
@@ -25,18 +25,18 @@ fn last_gate(b: Bounds, r: u64) -> Op
 
 // A circuit, by its rank, and its values.
 #[derive(Drop)]
-pub(crate) struct Start {
+pub(crate) struct CircuitValues {
     pub(crate) rank: u64,
     pub(crate) values: Values,
 }
 
-impl Start {
+impl CircuitValues {
     // The empty circuit.
-    fn new(b: Bounds, probe: &Probe) -> Start
+    fn new(b: Bounds, probe: &Probe) -> CircuitValues
         requires qubits { probe.now.q ≡ b.q }
-        ensures { IsStart b probe.now result }
+        ensures { HoldsValues b probe.now result }
     {
-        Start {
+        CircuitValues {
             rank: 0,
             values: probe.values(&[]),
         }
@@ -46,15 +46,15 @@ impl Start {
     fn go_to(&mut self, alloc: Global, b: Bounds, probe: &Probe, rank: u64) -> Result<(), Memory>
         requires listed { rank < length (all_circuits b) }
         requires qubits { probe.now.q ≡ b.q }
-        requires start { IsStart b probe.now self.old }
+        requires values { HoldsValues b probe.now self.old }
         ensures rank { OnOk result (self.new.rank ≡ rank) }
-        ensures start { OnOk result (IsStart b probe.now self.new) }
+        ensures values { OnOk result (HoldsValues b probe.now self.new) }
     {
         if self.rank == rank {
             return Ok(());
         }
         let circuit = unrank(alloc, rank, b)?;
-        *self = Start {
+        *self = CircuitValues {
             rank,
             values: probe.values(&circuit),
         };
@@ -72,9 +72,9 @@ impl Start {
     ) -> Result<Extensions, Memory>
         requires listed { r < length (all_circuits b) }
         requires qubits { probe.now.q ≡ b.q }
-        requires start { IsStart b probe.now self.old }
+        requires values { HoldsValues b probe.now self.old }
         ensures extends { IfOk result (Extends probe.now (circuit_at b r)) }
-        ensures start { OnOk result (IsStart b probe.now self.new) }
+        ensures values { OnOk result (HoldsValues b probe.now self.new) }
     {
         if r == 0 {
             return Ok(probe.extensions(&[]));
@@ -87,22 +87,22 @@ impl Start {
 // A circuit, by its rank, what the fingerprints of it with one gate more are made of, and the values of a shorter circuit. The
 // next circuit mostly is that shorter one with another gate.
 #[derive(Drop)]
-pub(crate) struct Front {
+pub(crate) struct CircuitExtensions {
     pub(crate) rank: u64,
     pub(crate) extensions: Extensions,
-    pub(crate) start: Start,
+    pub(crate) shorter: CircuitValues,
 }
 
-impl Front {
+impl CircuitExtensions {
     // The empty circuit.
-    pub(crate) fn new(b: Bounds, probe: &Probe) -> Front
+    pub(crate) fn new(b: Bounds, probe: &Probe) -> CircuitExtensions
         requires qubits { probe.now.q ≡ b.q }
-        ensures { IsFront b probe.now result }
+        ensures { HoldsExtensions b probe.now result }
     {
-        Front {
+        CircuitExtensions {
             rank: 0,
             extensions: probe.extensions(&[]),
-            start: Start::new(b, probe),
+            shorter: CircuitValues::new(b, probe),
         }
     }
 
@@ -116,12 +116,12 @@ impl Front {
     ) -> Result<(), Memory>
         requires listed { rank < length (all_circuits b) }
         requires qubits { probe.now.q ≡ b.q }
-        requires front { IsFront b probe.now self.old }
+        requires extensions { HoldsExtensions b probe.now self.old }
         ensures rank { OnOk result (self.new.rank ≡ rank) }
-        ensures front { OnOk result (IsFront b probe.now self.new) }
+        ensures extensions { OnOk result (HoldsExtensions b probe.now self.new) }
     {
         if self.rank != rank {
-            self.extensions = self.start.extensions(alloc, b, probe, rank)?;
+            self.extensions = self.shorter.extensions(alloc, b, probe, rank)?;
             self.rank = rank;
         }
         Ok(())
@@ -132,7 +132,7 @@ impl Front {
         requires some { 0 < r }
         requires listed { r < length (all_circuits b) }
         requires qubits { probe.now.q ≡ b.q }
-        requires front { IsFront b probe.now self.now }
+        requires extensions { HoldsExtensions b probe.now self.now }
         requires last { circuit_at b self.now.rank ≡ without_last (circuit_at b r) }
         ensures { result ≡ print_at b probe.now.seed r }
     {

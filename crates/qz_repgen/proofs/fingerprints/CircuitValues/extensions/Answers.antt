@@ -3,7 +3,7 @@ use Rattle.qz_circ.specs.Circuit.{Circuit}
 use Rattle.qz_circ.specs.Order.{circuit_at}
 use Rattle.qz_circ.proofs.CircuitPlaces.{circuit_at-zero}
 use Rattle.qz_finger.specs.Sums.{Extends}
-use Rattle.qz_repgen.proofs.front.Start.extensions.Goals as goal
+use Rattle.qz_repgen.proofs.fingerprints.CircuitValues.extensions.Goals as goal
 
 -- the empty circuit
 pub returns-then-r-eq0-clause-extends : goal.returns-then-r-eq0-clause-extends
