@@ -1,22 +1,19 @@
 -- Steps that leave all values as they are.
-use Rattle.std.proofs.Common.{◌≡◌, ◌≢◌, ◌⊎◌, ℕ, zero, suc, ◌+◌, ◌-◌, ◌%◌, ◌^◌, ◌<◌, ◌≤◌, ◌==◌, ◌&&◌, ◌||◌, Bool, true, false, cond, nat_lt, nat_le, List, [], ◌∷◌, ◌++◌, length, get_or, set, slice_get, slice_index, slice_index_or, Option, Some, None, sym, refl, ap, subst, ◌∙◌, inl, inr, ⊎_elim, arith, rules}
-use Rattle.std.specs.List.{All, count_by, sum_by}
+use Rattle.std.proofs.Common.{◌≡◌, ◌⊎◌, ℕ, ◌+◌, ◌<◌, ◌≤◌, ◌==◌, ◌&&◌, Bool, true, false, cond, nat_le, List, [], length, set, slice_get, slice_index, Option, Some, sym, ap, subst, ◌∙◌, inl, inr, ⊎_elim, arith}
+use Rattle.std.specs.List.{count_by, sum_by}
 use Rattle.std.proofs.lemmas.Bool.Decides.{nat_tests}
-use Rattle.std.proofs.lemmas.List.{get_or-set_same, get_or-set_other, set-get_or}
-use Rattle.std.proofs.lemmas.List.Elements.{All-append}
-use Rattle.std.proofs.lemmas.List.Sums.{sum_by_push, sum_by-append}
+use Rattle.std.proofs.lemmas.List.{get_or-set_same, get_or-set_other}
 use Rattle.std.proofs.Math.ListN.{length-set}
 use mathlib.Core.Option.{some}
 use lib.ListN.{get_elem?}
-use Rattle.atomic_table.specs.Table.{State, Me, Allows, Splits, Joins, keeps}
-use Rattle.atomic_table.proofs.Lists.{at_set, at_snoc, set_again, set_else}
+use Rattle.atomic_table.specs.Table.{State}
+use Rattle.atomic_table.proofs.Lists.{at_set}
 use Rattle.qz_seats.specs.declared.view.Terms.{Terms}
 use Rattle.qz_seats.specs.declared.view.View.{View}
-use Rattle.qz_seats.specs.Views.{draws, draws_past, shares_unended, is_held, holding, placed, entered, with_item, drawing, losing, after_split, newcomer, joined, nobody}
-use Rattle.qz_seats.specs.SeatRule.{below, count_of, IsLawful, IsNamed, Fits, IsValue, IsRuled}
+use Rattle.qz_seats.specs.Views.{draws, draws_past, shares_unended, is_held, holding, placed, entered, with_item}
+use Rattle.qz_seats.specs.SeatRule.{below, Fits, IsValue, IsRuled}
 use Rattle.qz_seats.specs.Receipts.{ReceiptParts}
-use Rattle.qz_seats.specs.Steps.{IsDraw, IsLook}
-use Rattle.qz_seats.proofs.Sums.{sum-set, one_le}
+use Rattle.qz_seats.proofs.Sums.{sum-set}
 
 -- 1 more is below the next number exactly at this one
 pub below_more : (x c : ℕ) → below x (c + 1) ≡ below x c + cond (c == x) 1 0
@@ -129,14 +126,14 @@ module _ {V : Type 0} (J N M : V → List ℕ) (t : Terms) where
       let first : slice_index (set s.words 0 n) 0 ≡ n = get_or-set_same s.words 0 n 0 (let h = r.wide in omega arith) in
       let same : (f : View → ℕ) → f w ≡ f v → sum_by f new ≡ sum_by f s.views = λ f e. (let h = sum-set f s.views k v w at in omega arith) in
       kept s r (set s.words 0 n) new
-        (length-set s.words 0 n)
-        (λ i. get_or-set_other s.words 0 (i + 1) n 0 (omega arith))
-        (λ x. (let h = sum-set (draws x) s.views k v w at in let d = drew x in let e = r.drawn x in let b : below x (slice_index (set s.words 0 n) 0) ≡ below x n = ap (below x) first in omega arith))
-        (same (λ u. u.shares) shares ∙ r.shares)
-        (let a = sum-set (draws_past t.limit) s.views k v w at in let b = sum-set shares_unended s.views k v w at in let p = r.past in omega arith)
-        (subst (λ c. c ≤ t.limit + sum_by (draws_past t.limit) new) (sym first) counter)
-        (λ i. same (holding i) (ap (is_held i) held))
-        (λ i p. same (placed i p) (ap (count_by (λ (r : ReceiptParts). (r.shard == i) && (r.place == p))) receipts))
-        (λ i x. same (entered i x) (ap (count_by (λ (r : ReceiptParts). (r.shard == i) && (r.item == x))) receipts))
-        (λ j u there. subst (λ c. Fits t c r.rest u) (sym first)
-          (at_change (Fits t n r.rest) s.views k w fit (λ j u old. fits_more t (slice_index s.words 0) n r.rest u more (r.fits j u old)) j u there))
+      (length-set s.words 0 n)
+      (λ i. get_or-set_other s.words 0 (i + 1) n 0 (omega arith))
+      (λ x. (let h = sum-set (draws x) s.views k v w at in let d = drew x in let e = r.drawn x in let b : below x (slice_index (set s.words 0 n) 0) ≡ below x n = ap (below x) first in omega arith))
+      (same (λ u. u.shares) shares ∙ r.shares)
+      (let a = sum-set (draws_past t.limit) s.views k v w at in let b = sum-set shares_unended s.views k v w at in let p = r.past in omega arith)
+      (subst (λ c. c ≤ t.limit + sum_by (draws_past t.limit) new) (sym first) counter)
+      (λ i. same (holding i) (ap (is_held i) held))
+      (λ i p. same (placed i p) (ap (count_by (λ (r : ReceiptParts). (r.shard == i) && (r.place == p))) receipts))
+      (λ i x. same (entered i x) (ap (count_by (λ (r : ReceiptParts). (r.shard == i) && (r.item == x))) receipts))
+      (λ j u there. subst (λ c. Fits t c r.rest u) (sym first)
+      (at_change (Fits t n r.rest) s.views k w fit (λ j u old. fits_more t (slice_index s.words 0) n r.rest u more (r.fits j u old)) j u there))

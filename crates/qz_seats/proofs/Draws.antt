@@ -1,16 +1,14 @@
 -- A draw keeps the rule, and so does a look.
-use Rattle.std.proofs.Common.{◌≡◌, ◌≢◌, ◌⊎◌, ℕ, ◌+◌, ◌%◌, ◌^◌, ◌<◌, ◌≤◌, ◌==◌, ◌||◌, Bool, true, false, cond, nat_le, List, [], ◌∷◌, ◌++◌, length, set, slice_get, slice_index, Option, Some, None, sym, refl, ap, subst, ◌∙◌, inl, inr, ⊎_elim, arith, rules}
-use Rattle.std.specs.List.{All, count_by, sum_by}
+use Rattle.std.proofs.Common.{◌≡◌, ◌⊎◌, ℕ, ◌+◌, ◌%◌, ◌^◌, ◌<◌, ◌≤◌, ◌==◌, ◌||◌, true, false, cond, nat_le, List, set, slice_index, Option, sym, refl, ap, subst, ◌∙◌, ⊎_elim, arith}
+use Rattle.std.specs.List.{sum_by}
 use Rattle.std.proofs.lemmas.List.{set-get_or}
 use Rattle.std.proofs.lemmas.List.Sums.{sum_by_push}
-use mathlib.Core.Option.{some}
-use lib.ListN.{get_elem?}
-use Rattle.atomic_table.specs.Table.{State, Me, Allows, keeps}
+use Rattle.atomic_table.specs.Table.{Me, Allows, keeps}
 use Rattle.atomic_table.proofs.Lists.{set_again}
 use Rattle.qz_seats.specs.declared.view.Terms.{Terms}
 use Rattle.qz_seats.specs.declared.view.View.{View}
-use Rattle.qz_seats.specs.Views.{draws, draws_past, shares_unended, with_item, drawing, nobody}
-use Rattle.qz_seats.specs.SeatRule.{below, IsLawful, IsNamed, Fits, IsRuled}
+use Rattle.qz_seats.specs.Views.{draws, draws_past, shares_unended, drawing}
+use Rattle.qz_seats.specs.SeatRule.{IsLawful, Fits, IsRuled}
 use Rattle.qz_seats.specs.Steps.{IsDraw, IsLook}
 use Rattle.qz_seats.proofs.Sums.{sum-set, one_le}
 use Rattle.qz_seats.proofs.Changes.{IsPast, IsWithin, at_limit, below_more, below_one, below_self, named_at, quiet}
@@ -55,28 +53,32 @@ module _ {V : Type 0} (J N M : V → List ℕ) (t : Terms) where
       let bound : c + 1 ≤ 2 ^ 41 = (let a = r.past in let b = lawful.given in let d = lawful.few_seats in omega arith) in
       let next : (c + 1) % 2 ^ 64 ≡ c + 1 = omega arith in
       let ruled : IsRuled J N M t (record { words = set s.words 0 (c + 1); homes = s.homes; views = set s.views id w }) =
-          quiet J N M t s id v w (c + 1) r at refl refl refl (omega arith)
-            (λ x. (let a = sum_by_push (λ d. cond (d == x) 1 0) v.drawn c in let b = below_more x c in omega arith))
-            (⊎_elim (λ p. (let a = p.one in let b = p.none in omega arith)) (λ p. (let a = p.none in let b = p.all in omega arith)) cases)
-            (⊎_elim (λ p. (let a = p.one in omega arith)) (λ p. (let a = p.number in omega arith)) cases)
-            (draw_fits t c r.rest v live same going fit ended past cases) in
-      (w,
-       keeps,
-       tt,
-       subst (λ n. IsRuled J N M t (record { words = set s.words 0 n; homes = s.homes; views = set s.views id w })) (sym next) ruled,
-       (refl, none, λ x name. (let h = named_at t c r.rest v fit same c x name in omega arith)))
+      quiet J N M t s id v w (c + 1) r at refl refl refl (omega arith)
+      (λ x. (let a = sum_by_push (λ d. cond (d == x) 1 0) v.drawn c in let b = below_more x c in omega arith))
+      (⊎_elim (λ p. (let a = p.one in let b = p.none in omega arith)) (λ p. (let a = p.none in let b = p.all in omega arith)) cases)
+      (⊎_elim (λ p. (let a = p.one in omega arith)) (λ p. (let a = p.number in omega arith)) cases)
+      (draw_fits t c r.rest v live same going fit ended past cases) in (
+        w,
+        keeps,
+        tt,
+        subst (λ n. IsRuled J N M t (record { words = set s.words 0 n; homes = s.homes; views = set s.views id w })) (sym next) ruled,
+        (refl, none, λ x name. (let h = named_at t c r.rest v fit same c x name in omega arith)),
+      )
 
   pub looks_keep : (slots id : ℕ) (me : Me (Option V) View) → 0 < me.0.shares → Allows (IsRuled J N M t) slots id me 0 (λ n. n) (λ _. IsLook me)
   looks_keep slots id me live s r long at small =
       let v : View = me.0 in
       let fit = r.fits id v at in
       let words : set s.words 0 (slice_index s.words 0) ≡ s.words = set-get_or s.words 0 0 in
-      let views : set s.views id v ≡ s.views = set_again s.views id v at in
-      (v,
-       keeps,
-       tt,
-       subst (λ ws. IsRuled J N M t (record { words = ws; homes = s.homes; views = set s.views id v })) (sym words)
-         (subst (λ vs. IsRuled J N M t (record { words = s.words; homes = s.homes; views = vs })) (sym views) r),
-       (refl,
-        (λ x. (let a = one_le (draws x) s.views id v at in let b = r.drawn x in let d = below_one x (slice_index s.words 0) in omega arith)),
-        subst (λ (u : Terms). v.shares ≤ u.seats) (sym (fit.live live)) (let a = one_le (λ (u : View). u.shares) s.views id v at in let b = r.shares in omega arith)))
+      let views : set s.views id v ≡ s.views = set_again s.views id v at in (
+        v,
+        keeps,
+        tt,
+        subst (λ ws. IsRuled J N M t (record { words = ws; homes = s.homes; views = set s.views id v })) (sym words)
+            (subst (λ vs. IsRuled J N M t (record { words = s.words; homes = s.homes; views = vs })) (sym views) r),
+        (
+          refl,
+          (λ x. (let a = one_le (draws x) s.views id v at in let b = r.drawn x in let d = below_one x (slice_index s.words 0) in omega arith)),
+          subst (λ (u : Terms). v.shares ≤ u.seats) (sym (fit.live live)) (let a = one_le (λ (u : View). u.shares) s.views id v at in let b = r.shares in omega arith),
+        ),
+      )

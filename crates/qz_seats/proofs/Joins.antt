@@ -1,17 +1,17 @@
 -- A split keeps the rule, and so does a join.
-use Rattle.std.proofs.Common.{◌≡◌, ◌≢◌, ◌⊎◌, ℕ, zero, suc, ◌+◌, ◌-◌, ◌<◌, ◌≤◌, ◌==◌, ◌&&◌, ◌||◌, Bool, true, false, cond, nat_le, List, [], ◌∷◌, ◌++◌, length, set, slice_get, slice_index, Option, Some, None, sym, refl, ap, subst, ◌∙◌, inl, inr, ⊎_elim, arith, rules}
-use Rattle.std.specs.List.{All, count_by, sum_by}
+use Rattle.std.proofs.Common.{◌≡◌, ◌⊎◌, ℕ, zero, suc, ◌+◌, ◌-◌, ◌<◌, ◌≤◌, ◌==◌, ◌&&◌, ◌||◌, Bool, true, false, cond, nat_le, List, [], ◌∷◌, ◌++◌, set, slice_get, slice_index, Option, Some, None, sym, refl, ap, subst, ◌∙◌, inl, inr, ⊎_elim, arith}
+use Rattle.std.specs.List.{sum_by}
 use Rattle.std.proofs.lemmas.List.Elements.{All-append}
 use Rattle.std.proofs.lemmas.List.Sums.{sum_by_push, sum_by-append}
 use mathlib.Core.Option.{some}
 use lib.ListN.{get_elem?}
-use Rattle.atomic_table.specs.Table.{State, Splits, Joins}
+use Rattle.atomic_table.specs.Table.{Splits, Joins}
 use Rattle.atomic_table.proofs.Lists.{at_snoc, set_else}
 use Rattle.qz_seats.specs.declared.view.Terms.{Terms}
 use Rattle.qz_seats.specs.declared.view.View.{View}
 use Rattle.qz_seats.specs.Receipts.{ReceiptParts}
-use Rattle.qz_seats.specs.Views.{draws, draws_past, shares_unended, is_held, holding, placed, entered, with_item, after_split, newcomer, joined, nobody}
-use Rattle.qz_seats.specs.SeatRule.{count_of, journal_of, IsNamed, Fits, IsRuled}
+use Rattle.qz_seats.specs.Views.{draws, draws_past, shares_unended, is_held, holding, placed, entered, after_split, newcomer, joined, nobody}
+use Rattle.qz_seats.specs.SeatRule.{count_of, journal_of, Fits, IsRuled}
 use Rattle.qz_seats.proofs.Sums.{sum-set}
 use Rattle.qz_seats.proofs.Changes.{at_change, kept}
 
@@ -111,17 +111,17 @@ module _ {V : Type 0} (J N M : V → List ℕ) (t : Terms) where
       let past = same (draws_past t.limit) (omega arith) in
       let unended = same shares_unended (split_unended v.ended v.shares two) in
       kept J N M t s r s.words (set s.views id left ++ right ∷ []) refl (λ i. refl)
-        (λ x. same (draws x) (omega arith) ∙ r.drawn x)
-        (same (λ u. u.shares) (omega arith) ∙ r.shares)
-        (let h = r.past in omega arith)
-        (let h = r.counter in omega arith)
-        (λ i. same (holding i) (omega arith))
-        (λ i p. same (placed i p) (omega arith))
-        (λ i x. same (entered i x) (omega arith))
-        (λ j u there. ⊎_elim
-          (λ e. at_change (Fits t (slice_index s.words 0) r.rest) s.views id left (after_split_fits t (slice_index s.words 0) r.rest v two fit) r.fits j u e)
-          (λ e. subst (Fits t (slice_index s.words 0) r.rest) e (newcomer_fits t (slice_index s.words 0) r.rest v (omega arith) fit))
-          (at_snoc (set s.views id left) right u j there))
+      (λ x. same (draws x) (omega arith) ∙ r.drawn x)
+      (same (λ u. u.shares) (omega arith) ∙ r.shares)
+      (let h = r.past in omega arith)
+      (let h = r.counter in omega arith)
+      (λ i. same (holding i) (omega arith))
+      (λ i p. same (placed i p) (omega arith))
+      (λ i x. same (entered i x) (omega arith))
+      (λ j u there. ⊎_elim
+      (λ e. at_change (Fits t (slice_index s.words 0) r.rest) s.views id left (after_split_fits t (slice_index s.words 0) r.rest v two fit) r.fits j u e)
+      (λ e. subst (Fits t (slice_index s.words 0) r.rest) e (newcomer_fits t (slice_index s.words 0) r.rest v (omega arith) fit))
+      (at_snoc (set s.views id left) right u j there))
 
   pub joins_keep : (id other : ℕ) (v w : View) → 0 < v.shares → v.held ≡ None → w.held ≡ None → Joins {S = Option V} (IsRuled J N M t) id v other w (joined v w) nobody
   joins_keep id other v w live free free_too s r at apart there =
@@ -135,12 +135,12 @@ module _ {V : Type 0} (J N M : V → List ℕ) (t : Terms) where
       let past = same (draws_past t.limit) (let h = sum_by-append (λ d. cond (nat_le t.limit d) 1 0) v.drawn w.drawn in omega arith) in
       let unended : sum_by shares_unended new ≤ sum_by shares_unended s.views = (let h = sums shares_unended in let k = join_unended v.ended w.ended v.shares w.shares in omega arith) in
       kept J N M t s r s.words new refl (λ i. refl)
-        (λ x. same (draws x) (let h = sum_by-append (λ d. cond (d == x) 1 0) v.drawn w.drawn in omega arith) ∙ r.drawn x)
-        (same (λ u. u.shares) (omega arith) ∙ r.shares)
-        (let h = r.past in omega arith)
-        (let h = r.counter in omega arith)
-        (λ i. same (holding i) (let a = ap (is_held i) free in let b = ap (is_held i) free_too in omega arith))
-        (λ i p. same (placed i p) (let h = sum_by-append (λ (x : ReceiptParts). cond ((x.shard == i) && (x.place == p)) 1 0) v.receipts w.receipts in omega arith))
-        (λ i x. same (entered i x) (let h = sum_by-append (λ (y : ReceiptParts). cond ((y.shard == i) && (y.item == x)) 1 0) v.receipts w.receipts in omega arith))
-        (at_change (Fits t (slice_index s.words 0) r.rest) (set s.views id both) other nobody (spent_fits t (slice_index s.words 0) r.rest)
-          (at_change (Fits t (slice_index s.words 0) r.rest) s.views id both (joined_fits t (slice_index s.words 0) r.rest v w live free fit fit_too) r.fits))
+      (λ x. same (draws x) (let h = sum_by-append (λ d. cond (d == x) 1 0) v.drawn w.drawn in omega arith) ∙ r.drawn x)
+      (same (λ u. u.shares) (omega arith) ∙ r.shares)
+      (let h = r.past in omega arith)
+      (let h = r.counter in omega arith)
+      (λ i. same (holding i) (let a = ap (is_held i) free in let b = ap (is_held i) free_too in omega arith))
+      (λ i p. same (placed i p) (let h = sum_by-append (λ (x : ReceiptParts). cond ((x.shard == i) && (x.place == p)) 1 0) v.receipts w.receipts in omega arith))
+      (λ i x. same (entered i x) (let h = sum_by-append (λ (y : ReceiptParts). cond ((y.shard == i) && (y.item == x)) 1 0) v.receipts w.receipts in omega arith))
+      (at_change (Fits t (slice_index s.words 0) r.rest) (set s.views id both) other nobody (spent_fits t (slice_index s.words 0) r.rest)
+      (at_change (Fits t (slice_index s.words 0) r.rest) s.views id both (joined_fits t (slice_index s.words 0) r.rest v w live free fit fit_too) r.fits))

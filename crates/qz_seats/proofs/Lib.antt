@@ -6,3 +6,5 @@ pub mod Values
 pub mod Lifts
 pub mod Passes
 pub mod Settles
+pub mod Moves
+pub mod Opens

@@ -1,6 +1,6 @@
 -- A try to lift a value keeps the rule.
-use Rattle.std.proofs.Common.{◌≡◌, ◌≢◌, ◌⊎◌, ℕ, zero, suc, ◌+◌, ◌<◌, ◌≤◌, ◌==◌, ◌&&◌, eqb, Bool, true, false, cond, List, [], ◌∷◌, ◌++◌, length, get_or, set, slice_get, slice_index, slice_index_or, Option, Some, None, sym, refl, ap, subst, ◌∙◌, inl, inr, ⊎_elim, arith, rules}
-use Rattle.std.specs.List.{All, count_by, sum_by}
+use Rattle.std.proofs.Common.{◌≡◌, ◌≢◌, ℕ, ◌+◌, ◌<◌, ◌≤◌, ◌==◌, ◌&&◌, Bool, true, false, cond, List, [], ◌∷◌, ◌++◌, set, slice_get, slice_index, slice_index_or, Option, Some, None, sym, refl, ap, subst, ◌∙◌, arith}
+use Rattle.std.specs.List.{sum_by}
 use Rattle.std.proofs.lemmas.Bool.Decides.{nat_tests}
 use Rattle.std.proofs.lemmas.List.{set-get_or}
 use mathlib.Core.Option.{some, none}
@@ -12,9 +12,9 @@ use Rattle.qz_seats.specs.declared.view.Terms.{Terms}
 use Rattle.qz_seats.specs.declared.view.View.{View}
 use Rattle.qz_seats.specs.Receipts.{ReceiptParts}
 use Rattle.qz_seats.specs.Views.{draws, draws_past, shares_unended, is_held, holding, placed, entered, with_item, taking, losing, nobody}
-use Rattle.qz_seats.specs.SeatRule.{count_of, opening_of, mark_of, journal_of, times, IsNamed, Fits, IsAt, IsValue, IsRuled}
+use Rattle.qz_seats.specs.SeatRule.{count_of, opening_of, mark_of, journal_of, Fits, IsAt, IsValue, IsRuled}
 use Rattle.qz_seats.specs.Steps.{IsLifted, IsWon, IsLift}
-use Rattle.qz_seats.proofs.Sums.{sum-set, one_le, less_all, less_at, alone}
+use Rattle.qz_seats.proofs.Sums.{sum-set, less_all, less_at, alone}
 use Rattle.qz_seats.proofs.Changes.{at_change, below_one, kept}
 use Rattle.qz_seats.proofs.Values.{touch}
 
@@ -74,13 +74,13 @@ module _ {V : Type 0} (J N M : V → List ℕ) (t : Terms) where
     receipts = λ k d h e. subst (λ xs. slice_get xs (slice_index_or v.receipts k d).place ≡ Some (slice_index_or v.receipts k d).item) (ap (journal_of t r.rest) e ∙ sym is) ((fit.stand k d h).1);
     absent = λ names d x name drew lacks.
         (let apart : t.names ≢ [] = subst (λ (u : Terms). u.names ≢ []) same names in
-         let there : slice_get t.names d ≡ Some x = subst (λ (u : Terms). slice_get u.names d ≡ Some x) same name in
-         let all = less_at (entered i x) (draws d) s.views id v (λ j u at'. (let a = entered_le i x u in let b = ((r.fits j u at').named apart).each_drawn d x there in omega arith)) at in
-         let mine = entered_le i x v in
-         let entries = (r.values i inside).entries x in
-         let drawn = r.drawn d in
-         let one = below_one d (slice_index s.words 0) in
-         omega arith);
+        let there : slice_get t.names d ≡ Some x = subst (λ (u : Terms). slice_get u.names d ≡ Some x) same name in
+        let all = less_at (entered i x) (draws d) s.views id v (λ j u at'. (let a = entered_le i x u in let b = ((r.fits j u at').named apart).each_drawn d x there in omega arith)) at in
+        let mine = entered_le i x v in
+        let entries = (r.values i inside).entries x in
+        let drawn = r.drawn d in
+        let one = below_one d (slice_index s.words 0) in
+        omega arith);
   }
     where
       fit : Fits t (slice_index s.words 0) r.rest v
@@ -109,23 +109,24 @@ module _ {V : Type 0} (J N M : V → List ℕ) (t : Terms) where
         entries = λ x. stays (entered i x) refl ∙ value.entries x;
       } in
       let ruled = touch J N M t s r id i v w 1 none r.rest at refl refl refl inside (λ k ne. refl)
-          (λ k ne. other_held i k (J val) ne ∙ sym (ap (is_held k) free)) (λ k p ne. refl) (λ k x ne. refl) after
-          (taking_fits t (slice_index s.words 0) r.rest v i (J val) live inside is.journal_is fit) (λ j u ne there. r.fits j u there) in
+      (λ k ne. other_held i k (J val) ne ∙ sym (ap (is_held k) free)) (λ k p ne. refl) (λ k x ne. refl) after
+      (taking_fits t (slice_index s.words 0) r.rest v i (J val) live inside is.journal_is fit) (λ j u ne there. r.fits j u there) in
       let won : IsWon J N M i me (w, (i, Some val) ∷ me.1) = record {
         value = val;
         becomes = refl;
         at = record { journal_is = refl; names_are = is.names_are ∙ ap (λ (u : Terms). u.names) (sym same); mark_is = is.mark_is ∙ ap (λ (u : Terms). mark_of u i) (sym same) };
         lifted = home_lifted s r id i v (J val) at same inside is.journal_is;
-      } in
-      (w,
-       takes i (Some val),
-       home.1,
-       ruled,
-       record {
-         won = λ _ k e. subst (λ n. IsWon J N M n me (w, (i, Some val) ∷ me.1)) (omega arith) won;
-         lost = λ some_found. absurd (some_found home_word);
-         alone = λ _. home_word;
-       })
+      } in (
+        w,
+        takes i (Some val),
+        home.1,
+        ruled,
+        record {
+          won = λ _ k e. subst (λ n. IsWon J N M n me (w, (i, Some val) ∷ me.1)) (omega arith) won;
+          lost = λ some_found. absurd (some_found home_word);
+          alone = λ _. home_word;
+        },
+      )
 
   -- value i was out
   lift_lost : (id i : ℕ) (me : Me (Option V) View) → 0 < me.0.shares → me.0.held ≡ None → i < count_of t → (s : State (Option V) View) → IsRuled J N M t s → get_elem? s.views id ≡ some me.0 → slice_index s.words (i + 1) ≢ 0
@@ -139,24 +140,25 @@ module _ {V : Type 0} (J N M : V → List ℕ) (t : Terms) where
       let past = stays (draws_past t.limit) refl in
       let unended = stays shares_unended refl in
       let ruled = kept J N M t s r s.words new refl (λ k. refl) (λ x. stays (draws x) refl ∙ r.drawn x) (stays (λ u. u.shares) refl ∙ r.shares)
-          (let h = r.past in omega arith) (let h = r.counter in omega arith)
-          (λ k. stays (holding k) refl) (λ k p. stays (placed k p) refl) (λ k x. stays (entered k x) refl)
-          (at_change (Fits t (slice_index s.words 0) r.rest) s.views id w (losing_fits t (slice_index s.words 0) r.rest v live fit) r.fits) in
-      (w,
-       keeps,
-       tt,
-       subst (λ ws. IsRuled J N M t (record { words = ws; homes = s.homes; views = new })) (sym (set-get_or s.words (i + 1) 0)) ruled,
-       record {
-         won = λ hit _ _. absurd (found hit);
-         lost = λ _. refl;
-         alone = λ all. (let h = has_all (holding i) refl s r id v at (all ∙ ap (λ (u : Terms). u.seats) (fit.live live)) in
-             let a = ap (is_held i) free in let b = (r.values i inside).lock in omega arith);
-       })
+      (let h = r.past in omega arith) (let h = r.counter in omega arith)
+      (λ k. stays (holding k) refl) (λ k p. stays (placed k p) refl) (λ k x. stays (entered k x) refl)
+      (at_change (Fits t (slice_index s.words 0) r.rest) s.views id w (losing_fits t (slice_index s.words 0) r.rest v live fit) r.fits) in (
+        w,
+        keeps,
+        tt,
+        subst (λ ws. IsRuled J N M t (record { words = ws; homes = s.homes; views = new })) (sym (set-get_or s.words (i + 1) 0)) ruled,
+        record {
+          won = λ hit _ _. absurd (found hit);
+          lost = λ _. refl;
+          alone = λ all. (let h = has_all (holding i) refl s r id v at (all ∙ ap (λ (u : Terms). u.seats) (fit.live live)) in
+              let a = ap (is_held i) free in let b = (r.values i inside).lock in omega arith);
+        },
+      )
 
   pub lifts_keep : (slots id i : ℕ) (me : Me (Option V) View) → 0 < me.0.shares → me.0.held ≡ None → i < count_of t
       → Allows (IsRuled J N M t) slots id me (i + 1) (λ n. either (n == 0) 1 n) (IsLift J N M (i + 1) me)
   lifts_keep slots id i me live free inside s r long at small =
       exchanged (slice_index s.words (i + 1)) 0 1
-        (λ n. (w : View) × (a : Act (Option V)) × Valid s.homes me.1 a × IsRuled J N M t (stepped s (i + 1) n id me.1 w a) × IsLift J N M (i + 1) me (slice_index s.words (i + 1)) (w, carried_after me.1 a))
-        (lift_won id i me live free inside s r at)
-        (lift_lost id i me live free inside s r at)
+      (λ n. (w : View) × (a : Act (Option V)) × Valid s.homes me.1 a × IsRuled J N M t (stepped s (i + 1) n id me.1 w a) × IsLift J N M (i + 1) me (slice_index s.words (i + 1)) (w, carried_after me.1 a))
+      (lift_won id i me live free inside s r at)
+      (lift_lost id i me live free inside s r at)

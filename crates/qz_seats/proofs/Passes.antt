@@ -1,9 +1,11 @@
 -- What a seat has after its slot was read and written.
-use Rattle.std.proofs.Common.{◌≡◌, ℕ, ◌<◌, Bool, List, [], ◌∷◌, Option, Some, None, sym, refl, ap, subst, ◌∙◌, arith}
+use Rattle.std.proofs.Common.{◌≡◌, ℕ, ◌+◌, ◌<◌, Bool, List, [], ◌∷◌, ◌++◌, length, length-append, slice_get, slice_index, Option, Some, None, sym, refl, ap, subst, ◌∙◌, arith}
 use Rattle.atomic_table.specs.Table.{Me, rest}
 use Rattle.qz_seats.specs.declared.view.View.{View}
-use Rattle.qz_seats.specs.Views.{taking}
+use Rattle.std.proofs.lemmas.Option.{get_or_from_slice_get}
+use Rattle.qz_seats.specs.Views.{taking, adding}
 use Rattle.qz_seats.specs.SeatRule.{count_of}
+use Rattle.qz_seats.specs.Steps.{IsSettleOne}
 use Rattle.qz_seats.specs.Parts.{carried, IsPass}
 
 second : {A : Type 0} → A → List (ℕ × A) → A
@@ -49,3 +51,13 @@ module _ {V : Type 0} where
   -- a value was put into the slot of value i, which the pass holds
   pub put_is : (me new : Me (Option V) View) (i : ℕ) (j : List ℕ) (value : V) → me.1 ≡ carried me.0.held → me.0.held ≡ Some (i, j) → new ≡ (me.0, (i, Some value) ∷ rest me.1) → new ≡ (me.0, (i, Some value) ∷ [])
   put_is me new i j value slots held put = put ∙ ap (λ (l : List (ℕ × Option V)). (me.0, (i, Some value) ∷ rest l)) (slots ∙ ap carried held)
+
+  -- what a pass knows after it gave value i back with one entry more
+  pub settled_is : (J : V → List ℕ) (me now new : Me (Option V) View) (i : ℕ) (lifted : List ℕ) (entry : ℕ) (value : V) (place item : ℕ) → me.0.held ≡ Some (i, lifted) → J value ≡ lifted ++ entry ∷ [] → now ≡ (me.0, (i, Some value) ∷ [])
+      → IsSettleOne J now new → place + 1 ≡ length (J value) → slice_get (J value) place ≡ Some item → new ≡ (adding me.0 (record { shard = i; place = place; item = item }), [])
+  settled_is J me now new i lifted entry value place item held journal put settled long at =
+      let here : length lifted ≡ place = omega (arith, ap length journal, length-append lifted (entry ∷ [])) in
+      let is : slice_index (J value) (length lifted) ≡ item = subst (λ n. slice_index (J value) n ≡ item) (sym here) (get_or_from_slice_get (J value) place item 0 at) in
+      let first : now.0 ≡ me.0 = ap (λ (m : Me (Option V) View). m.0) put in
+      let step = settled (i, lifted) value (ap (λ (v : View). v.held) first ∙ held) (ap (λ (m : Me (Option V) View). m.1) put) in
+      step ∙ (λ k. (adding (first k) (record { shard = i; place = here k; item = is k }), []))

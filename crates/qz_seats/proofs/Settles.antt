@@ -1,6 +1,6 @@
 -- Giving a value back keeps the rule.
-use Rattle.std.proofs.Common.{◌≡◌, ◌≢◌, ◌⊎◌, ℕ, zero, suc, ◌+◌, ◌<◌, ◌≤◌, ◌==◌, ◌&&◌, eqb, nat_lt, nat_le, Bool, true, false, cond, List, [], ◌∷◌, ◌++◌, length, get_or, set, slice_get, slice_index, slice_index_or, Option, Some, None, sym, refl, ap, subst, ◌∙◌, inl, inr, ⊎_elim, append_assoc, length-append, eq-eqb, ne_eqb, arith, rules}
-use Rattle.std.specs.List.{All, count_by, sum_by}
+use Rattle.std.proofs.Common.{◌≡◌, ◌≢◌, ℕ, zero, suc, ◌+◌, ◌<◌, ◌==◌, ◌&&◌, eqb, Bool, cond, List, [], ◌∷◌, ◌++◌, length, set, slice_get, slice_index, slice_index_or, Some, None, sym, refl, ap, subst, ◌∙◌, append_assoc, length-append, eq-eqb, ne_eqb, arith}
+use Rattle.std.specs.List.{sum_by}
 use Rattle.std.proofs.lemmas.Bool.Decides.{nat_tests}
 use Rattle.std.proofs.lemmas.List.Elements.{All-append, All-cons, All-nil}
 use Rattle.std.proofs.lemmas.List.Sums.{sum_by_push}
@@ -8,13 +8,12 @@ use Rattle.std.proofs.Math.Seq.{get_or-append_seam}
 use mathlib.Core.Option.{some}
 use mathlib.Core.Logic.{dite}
 use native.Mathlib.Decide.{ℕ_discrete}
-use lib.ListN.{get_elem?}
-use Rattle.atomic_table.specs.Table.{State, Me, Allows, gives}
+use Rattle.atomic_table.specs.Table.{Allows, gives}
 use Rattle.qz_seats.specs.declared.view.Terms.{Terms}
 use Rattle.qz_seats.specs.declared.view.View.{View}
 use Rattle.qz_seats.specs.Receipts.{ReceiptParts}
-use Rattle.qz_seats.specs.Views.{draws, is_held, holding, placed, entered, with_item, giving, adding, nobody}
-use Rattle.qz_seats.specs.SeatRule.{between, times, AreDifferent, count_of, opening_of, mark_of, journal_of, IsNamed, Fits, IsAt, IsValue, IsRuled}
+use Rattle.qz_seats.specs.Views.{draws, is_held, holding, placed, entered, with_item, giving, adding}
+use Rattle.qz_seats.specs.SeatRule.{between, AreDifferent, count_of, opening_of, mark_of, journal_of, Fits, IsAt, IsValue, IsRuled}
 use Rattle.qz_seats.specs.Steps.{IsSettleSame, IsSettleOne}
 use Rattle.qz_seats.proofs.Sums.{sum-set}
 use Rattle.qz_seats.proofs.Values.{touch, lock_held, held_once}
@@ -63,10 +62,10 @@ longer_journal t rest i x = ap (λ xs. opening_of t i ++ xs) (longer_here rest i
 longer_stands : (t : Terms) (rest : ℕ → List ℕ) (i x k p y : ℕ) → slice_get (journal_of t rest k) p ≡ Some y → slice_get (journal_of t (longer rest i x) k) p ≡ Some y
 longer_stands t rest i x k p y at =
     dite (ℕ_discrete k i)
-      (λ e. subst (λ n. slice_get (journal_of t (longer rest i x) n) p ≡ Some y) (sym e)
-        (subst (λ xs. slice_get xs p ≡ Some y) (sym (longer_journal t rest i x))
-          (longer_at (journal_of t rest i) (x ∷ []) p y (subst (λ n. slice_get (journal_of t rest n) p ≡ Some y) e at))))
-      (λ ne. subst (λ xs. slice_get (opening_of t k ++ xs) p ≡ Some y) (sym (longer_else rest i x k ne)) at)
+    (λ e. subst (λ n. slice_get (journal_of t (longer rest i x) n) p ≡ Some y) (sym e)
+    (subst (λ xs. slice_get xs p ≡ Some y) (sym (longer_journal t rest i x))
+    (longer_at (journal_of t rest i) (x ∷ []) p y (subst (λ n. slice_get (journal_of t rest n) p ≡ Some y) e at))))
+    (λ ne. subst (λ xs. slice_get (opening_of t k ++ xs) p ≡ Some y) (sym (longer_else rest i x k ne)) at)
 
 -- a pass that does not hold value i fits where the value has one entry more
 longer_fits : (t : Terms) (c : ℕ) (rest : ℕ → List ℕ) (i x : ℕ) (v : View) → ((h : ℕ × List ℕ) → v.held ≡ Some h → h.0 ≢ i) → Fits t c rest v → Fits t c (longer rest i x) v
@@ -99,12 +98,12 @@ adding_fits t c rest v r live apart inside stands name fit = record {
     each_drawn = λ d x at. (let sum = sum_by_push (λ (q : ReceiptParts). cond (q.item == x) 1 0) v.receipts r in
         let old = (fit.named names).each_drawn d x at in
         dite (ℕ_discrete r.item x)
-          (λ e. (let one : cond {A = ℕ} (r.item == x) 1 0 ≡ 1 = ap (λ b. cond {A = ℕ} b 1 0) (eq-eqb r.item x e) in
-              let same : d ≡ (name names).0.0 = apart d (name names).0.0 x at ((name names).0.1 ∙ ap Some e) in
-              let lacks : with_item x v ≡ 0 = ap (λ y. with_item y v) (sym e) ∙ (name names).1 in
-              let drew : 0 < draws d v = subst (λ n. 0 < draws n v) (sym same) ((name names).0.2) in
-              omega arith))
-          (λ ne. (let zero_more : cond {A = ℕ} (r.item == x) 1 0 ≡ 0 = ap (λ b. cond {A = ℕ} b 1 0) (ne_eqb r.item x ne) in omega arith)));
+        (λ e. (let one : cond {A = ℕ} (r.item == x) 1 0 ≡ 1 = ap (λ b. cond {A = ℕ} b 1 0) (eq-eqb r.item x e) in
+        let same : d ≡ (name names).0.0 = apart d (name names).0.0 x at ((name names).0.1 ∙ ap Some e) in
+        let lacks : with_item x v ≡ 0 = ap (λ y. with_item y v) (sym e) ∙ (name names).1 in
+        let drew : 0 < draws d v = subst (λ n. 0 < draws n v) (sym same) ((name names).0.2) in
+        omega arith))
+        (λ ne. (let zero_more : cond {A = ℕ} (r.item == x) 1 0 ≡ 0 = ap (λ b. cond {A = ℕ} b 1 0) (ne_eqb r.item x ne) in omega arith)));
   };
 }
 
@@ -128,22 +127,27 @@ module _ {V : Type 0} (J N M : V → List ℕ) (t : Terms) where
       let after : IsValue J N M t i (r.rest i) 0 (some (some (Some value))) new = record {
         lock = (let h = sum-set (holding i) s.views id v w here in let a = old.lock in let b = lock_held J N M t s r id i v here inside mine in omega arith);
         bit = omega arith;
-        home = λ _. (value, refl, record {
-          journal_is = (fit.holds (i, J value) held).1;
-          names_are = at.names_are ∙ ap (λ (u : Terms). u.names) same;
-          mark_is = at.mark_is ∙ ap (λ (u : Terms). mark_of u i) same;
-        });
+        home = λ _. (
+          value,
+          refl,
+          record {
+            journal_is = (fit.holds (i, J value) held).1;
+            names_are = at.names_are ∙ ap (λ (u : Terms). u.names) same;
+            mark_is = at.mark_is ∙ ap (λ (u : Terms). mark_of u i) same;
+          },
+        );
         out = λ e. absurd (omega arith);
         places = λ p. stays (placed i p) refl ∙ old.places p;
         entries = λ x. stays (entered i x) refl ∙ old.entries x;
-      } in
-      (w,
-       gives,
-       tt,
-       touch J N M t s r id i v w 0 (some (Some value)) r.rest here refl refl refl inside (λ k ne. refl)
-         (λ k ne. sym (ap (is_held k) held ∙ other_held i k (J value) ne)) (λ k p ne. refl) (λ k x ne. refl) after
-         (giving_fits t (slice_index s.words 0) r.rest v live fit) (λ j u ne there. r.fits j u there),
-       refl)
+      } in (
+        w,
+        gives,
+        tt,
+        touch J N M t s r id i v w 0 (some (Some value)) r.rest here refl refl refl inside (λ k ne. refl)
+            (λ k ne. sym (ap (is_held k) held ∙ other_held i k (J value) ne)) (λ k p ne. refl) (λ k x ne. refl) after
+            (giving_fits t (slice_index s.words 0) r.rest v live fit) (λ j u ne there. r.fits j u there),
+        refl,
+      )
 
   -- a value goes home with one entry more
   pub one_keeps : (slots id i : ℕ) (v : View) (value : V) (lifted : List ℕ) (entry : ℕ) → AreDifferent t.names → 0 < v.shares → v.held ≡ Some (i, lifted) → IsAt J N M v.terms i (lifted ++ entry ∷ []) value
@@ -163,11 +167,15 @@ module _ {V : Type 0} (J N M : V → List ℕ) (t : Terms) where
       let after : IsValue J N M t i (r.rest i ++ entry ∷ []) 0 (some (some (Some value))) new = record {
         lock = (let h = sum-set (holding i) s.views id v w here in let a = old.lock in let b = lock_held J N M t s r id i v here inside mine in omega arith);
         bit = omega arith;
-        home = λ _. (value, refl, record {
-          journal_is = at.journal_is ∙ (ap (λ xs. xs ++ entry ∷ []) journal ∙ append_assoc (opening_of t i) (r.rest i) (entry ∷ []));
-          names_are = at.names_are ∙ ap (λ (u : Terms). u.names) same;
-          mark_is = at.mark_is ∙ ap (λ (u : Terms). mark_of u i) same;
-        });
+        home = λ _. (
+          value,
+          refl,
+          record {
+            journal_is = at.journal_is ∙ (ap (λ xs. xs ++ entry ∷ []) journal ∙ append_assoc (opening_of t i) (r.rest i) (entry ∷ []));
+            names_are = at.names_are ∙ ap (λ (u : Terms). u.names) same;
+            mark_is = at.mark_is ∙ ap (λ (u : Terms). mark_of u i) same;
+          },
+        );
         out = λ e. absurd (omega arith);
         places = λ p. (let h = sum-set (placed i p) s.views id v w here in
             let a = sum_by_push (λ (q : ReceiptParts). cond ((q.shard == i) && (q.place == p)) 1 0) v.receipts receipt in
@@ -175,7 +183,7 @@ module _ {V : Type 0} (J N M : V → List ℕ) (t : Terms) where
             let e : cond {A = ℕ} ((i == i) && (length lifted == p)) 1 0 ≡ cond {A = ℕ} ((i == i) && ((length (opening_of t i) + length (r.rest i)) == p)) 1 0 = ap (λ n. cond {A = ℕ} ((i == i) && (n == p)) 1 0) long_is in
             let m = place_more i p (length (opening_of t i)) (length (r.rest i)) in
             let l : between p (length (opening_of t i)) (length (opening_of t i) + length (r.rest i ++ entry ∷ [])) ≡ between p (length (opening_of t i)) (length (opening_of t i) + (length (r.rest i) + 1)) =
-                ap (λ n. between p (length (opening_of t i)) (length (opening_of t i) + n)) (length-append (r.rest i) (entry ∷ [])) in
+            ap (λ n. between p (length (opening_of t i)) (length (opening_of t i) + n)) (length-append (r.rest i) (entry ∷ [])) in
             omega arith);
         entries = λ x. (let h = sum-set (entered i x) s.views id v w here in
             let a = sum_by_push (λ (q : ReceiptParts). cond ((q.shard == i) && (q.item == x)) 1 0) v.receipts receipt in
@@ -185,30 +193,31 @@ module _ {V : Type 0} (J N M : V → List ℕ) (t : Terms) where
             omega arith);
       } in
       let stands : slice_get (journal_of t (longer r.rest i entry) i) (length lifted) ≡ Some entry =
-          subst (λ xs. slice_get xs (length lifted) ≡ Some entry) (ap (λ xs. xs ++ entry ∷ []) journal ∙ sym (longer_journal t r.rest i entry)) (at_end lifted entry) in
+      subst (λ xs. slice_get xs (length lifted) ≡ Some entry) (ap (λ xs. xs ++ entry ∷ []) journal ∙ sym (longer_journal t r.rest i entry)) (at_end lifted entry) in
       let name_too : t.names ≢ [] → ((d : ℕ) × (slice_get t.names d ≡ Some entry) × (0 < draws d v)) × (with_item entry v ≡ 0) =
-          subst (λ (u : Terms). u.names ≢ [] → ((d : ℕ) × (slice_get u.names d ≡ Some entry) × (0 < draws d v)) × (with_item entry v ≡ 0)) same name in
-      let else_zero : (k a : ℕ) (b : Bool) → k ≢ i → cond {A = ℕ} ((i == k) && b) 1 0 ≡ 0 = λ k a b ne. ap (λ q. cond {A = ℕ} (q && b) 1 0) (ne_eqb i k (λ e. ne (sym e))) in
-      (w,
-       gives,
-       tt,
-       touch J N M t s r id i v w 0 (some (Some value)) (longer r.rest i entry) here refl refl refl inside (longer_else r.rest i entry)
-         (λ k ne. sym (ap (is_held k) held ∙ other_held i k lifted ne))
-         (λ k p ne. (let a = sum_by_push (λ (q : ReceiptParts). cond ((q.shard == k) && (q.place == p)) 1 0) v.receipts receipt in let z = else_zero k p (length lifted == p) ne in omega arith))
-         (λ k x ne. (let a = sum_by_push (λ (q : ReceiptParts). cond ((q.shard == k) && (q.item == x)) 1 0) v.receipts receipt in let z = else_zero k x (entry == x) ne in omega arith))
-         (subst (λ xs. IsValue J N M t i xs 0 (some (some (Some value))) new) (sym (longer_here r.rest i entry)) after)
-         (adding_fits t (slice_index s.words 0) (longer r.rest i entry) (giving v) receipt live apart inside stands name_too
-           (longer_fits t (slice_index s.words 0) r.rest i entry (giving v) (λ h e. absurd (none-some h e)) (giving_fits t (slice_index s.words 0) r.rest v live fit)))
-         (λ j u ne there. longer_fits t (slice_index s.words 0) r.rest i entry u
-           (λ h e is. (let none = held_once J N M t s r id i v here inside mine j u ne there in let one = ap (is_held i) e ∙ (ap (λ n. is_held i (Some (n, h.1))) is ∙ this_held i h.1) in absurd (omega arith)))
-           (r.fits j u there)),
-       told)
+      subst (λ (u : Terms). u.names ≢ [] → ((d : ℕ) × (slice_get u.names d ≡ Some entry) × (0 < draws d v)) × (with_item entry v ≡ 0)) same name in
+      let else_zero : (k a : ℕ) (b : Bool) → k ≢ i → cond {A = ℕ} ((i == k) && b) 1 0 ≡ 0 = λ k a b ne. ap (λ q. cond {A = ℕ} (q && b) 1 0) (ne_eqb i k (λ e. ne (sym e))) in (
+        w,
+        gives,
+        tt,
+        touch J N M t s r id i v w 0 (some (Some value)) (longer r.rest i entry) here refl refl refl inside (longer_else r.rest i entry)
+            (λ k ne. sym (ap (is_held k) held ∙ other_held i k lifted ne))
+            (λ k p ne. (let a = sum_by_push (λ (q : ReceiptParts). cond ((q.shard == k) && (q.place == p)) 1 0) v.receipts receipt in let z = else_zero k p (length lifted == p) ne in omega arith))
+            (λ k x ne. (let a = sum_by_push (λ (q : ReceiptParts). cond ((q.shard == k) && (q.item == x)) 1 0) v.receipts receipt in let z = else_zero k x (entry == x) ne in omega arith))
+            (subst (λ xs. IsValue J N M t i xs 0 (some (some (Some value))) new) (sym (longer_here r.rest i entry)) after)
+            (adding_fits t (slice_index s.words 0) (longer r.rest i entry) (giving v) receipt live apart inside stands name_too
+            (longer_fits t (slice_index s.words 0) r.rest i entry (giving v) (λ h e. absurd (none-some h e)) (giving_fits t (slice_index s.words 0) r.rest v live fit)))
+            (λ j u ne there. longer_fits t (slice_index s.words 0) r.rest i entry u
+            (λ h e is. (let none = held_once J N M t s r id i v here inside mine j u ne there in let one = ap (is_held i) e ∙ (ap (λ n. is_held i (Some (n, h.1))) is ∙ this_held i h.1) in absurd (omega arith)))
+            (r.fits j u there)),
+        told,
+      )
     where
       told : IsSettleOne J (v, (i, Some value) ∷ []) (adding v (record { shard = i; place = length lifted; item = entry }), [])
       told h other e slot =
           let pair : (i, lifted) ≡ h = some_same (i, lifted) h (sym held ∙ e) in
           let same : value ≡ other = some_same value other (front i h.0 (Some value) (Some other) [] [] slot) in
           let item : entry ≡ slice_index (J other) (length h.1) =
-              sym (ap (λ xs. slice_index xs (length lifted)) at.journal_is ∙ get_or-append_seam lifted entry [] 0)
-              ∙ (ap (λ x. slice_index (J x) (length lifted)) same ∙ ap (λ (k : ℕ × List ℕ). slice_index (J other) (length k.1)) pair) in
+          sym (ap (λ xs. slice_index xs (length lifted)) at.journal_is ∙ get_or-append_seam lifted entry [] 0)
+          ∙ (ap (λ x. slice_index (J x) (length lifted)) same ∙ ap (λ (k : ℕ × List ℕ). slice_index (J other) (length k.1)) pair) in
           λ k. (adding v (record { shard = (pair k).0; place = length ((pair k).1); item = item k }), [])

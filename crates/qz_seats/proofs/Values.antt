@@ -1,7 +1,6 @@
 -- Steps that take one value or give it back.
-use Rattle.std.proofs.Common.{◌≡◌, ◌≢◌, ◌⊎◌, ℕ, zero, suc, ◌+◌, ◌<◌, ◌≤◌, ◌==◌, ◌&&◌, eqb, Bool, true, false, cond, List, [], ◌∷◌, ◌++◌, length, get_or, set, slice_get, slice_index, Option, Some, None, sym, refl, ap, subst, ◌∙◌, inl, inr, ⊎_elim, arith, rules}
+use Rattle.std.proofs.Common.{◌≡◌, ◌≢◌, ℕ, ◌+◌, ◌<◌, ◌≤◌, ◌==◌, cond, List, set, slice_index, Option, sym, ap, subst, ◌∙◌, ⊎_elim, arith}
 use Rattle.std.specs.List.{All, count_by, sum_by}
-use Rattle.std.proofs.lemmas.Bool.Decides.{nat_tests}
 use Rattle.std.proofs.lemmas.List.{get_or-set_same, get_or-set_other}
 use Rattle.std.proofs.Math.ListN.{length-set}
 use mathlib.Core.Option as slots
@@ -13,9 +12,8 @@ use Rattle.atomic_table.specs.Table.{State}
 use Rattle.atomic_table.proofs.Lists.{at_set, set_else}
 use Rattle.qz_seats.specs.declared.view.Terms.{Terms}
 use Rattle.qz_seats.specs.declared.view.View.{View}
-use Rattle.qz_seats.specs.Receipts.{ReceiptParts}
-use Rattle.qz_seats.specs.Views.{draws, draws_past, shares_unended, is_held, holding, placed, entered, with_item, nobody}
-use Rattle.qz_seats.specs.SeatRule.{below, count_of, opening_of, journal_of, IsNamed, Fits, IsValue, IsRuled}
+use Rattle.qz_seats.specs.Views.{draws, draws_past, shares_unended, holding, placed, entered}
+use Rattle.qz_seats.specs.SeatRule.{below, count_of, Fits, IsValue, IsRuled}
 use Rattle.qz_seats.proofs.Sums.{sum-set, one_le, two_le}
 use Rattle.qz_seats.proofs.Changes.{value_kept}
 
@@ -44,16 +42,16 @@ module _ {V : Type 0} (J N M : V → List ℕ) (t : Terms) where
         past = (let h = r.past in omega arith);
         counter = subst (λ c. c ≤ t.limit + sum_by (draws_past t.limit) new) (sym first) (let h = r.counter in omega arith);
         values = λ k within. dite (ℕ_discrete k i)
-          (λ e. subst (λ n. IsValue J N M t n (after n) (slice_index (set s.words (i + 1) bit) (n + 1)) (get_elem? (set s.homes i slot) n) new) (sym e)
+            (λ e. subst (λ n. IsValue J N M t n (after n) (slice_index (set s.words (i + 1) bit) (n + 1)) (get_elem? (set s.homes i slot) n) new) (sym e)
             (subst (λ b. IsValue J N M t i (after i) b (get_elem? (set s.homes i slot) i) new) (sym (get_or-set_same s.words (i + 1) bit 0 (let h = r.wide in omega arith)))
-              (subst (λ h. IsValue J N M t i (after i) bit h new) (sym (Rattle.atomic_table.proofs.Lists.set_here s.homes i slot (let h = r.long in omega arith))) value)))
-          (λ ne. subst (λ rs. IsValue J N M t k rs (slice_index (set s.words (i + 1) bit) (k + 1)) (get_elem? (set s.homes i slot) k) new) (sym (others k ne))
+            (subst (λ h. IsValue J N M t i (after i) bit h new) (sym (Rattle.atomic_table.proofs.Lists.set_here s.homes i slot (let h = r.long in omega arith))) value)))
+            (λ ne. subst (λ rs. IsValue J N M t k rs (slice_index (set s.words (i + 1) bit) (k + 1)) (get_elem? (set s.homes i slot) k) new) (sym (others k ne))
             (subst (λ b. IsValue J N M t k (r.rest k) b (get_elem? (set s.homes i slot) k) new) (sym (get_or-set_other s.words (i + 1) (k + 1) bit 0 (λ e. ne (omega arith))))
-              (subst (λ h. IsValue J N M t k (r.rest k) (slice_index s.words (k + 1)) h new) (sym (set_else s.homes i k slot ne))
-                (value_kept J N M t k (r.rest k) (slice_index s.words (k + 1)) (get_elem? s.homes k) s.views new
-                  (same (holding k) (holds k ne)) (λ p. same (placed k p) (places k p ne)) (λ x. same (entered k x) (entries k x ne)) (r.values k within)))));
+            (subst (λ h. IsValue J N M t k (r.rest k) (slice_index s.words (k + 1)) h new) (sym (set_else s.homes i k slot ne))
+            (value_kept J N M t k (r.rest k) (slice_index s.words (k + 1)) (get_elem? s.homes k) s.views new
+            (same (holding k) (holds k ne)) (λ p. same (placed k p) (places k p ne)) (λ x. same (entered k x) (entries k x ne)) (r.values k within)))));
         fits = λ j u there. subst (λ c. Fits t c after u) (sym first)
-          (dite (ℕ_discrete j id)
+            (dite (ℕ_discrete j id)
             (λ e. ⊎_elim (λ h. subst (Fits t (slice_index s.words 0) after) h.1 fit) (λ h. absurd (h.0 e)) (at_set s.views id j w u there))
             (λ ne. fits j u ne (sym (set_else s.views id j w ne) ∙ there)));
       }

@@ -1,10 +1,10 @@
 -- What each kind of step tells the pass that makes it. `me` is what the pass knows, with the slots that it has.
-use Rattle.std.specs.Prelude.{◌≡◌, ◌≢◌, ℕ, ◌+◌, ◌<◌, ◌≤◌, List, [], ◌∷◌, ◌++◌, length, slice_get, slice_index, Option, Some, None}
+use Rattle.std.specs.Prelude.{◌≡◌, ◌≢◌, ℕ, ◌+◌, ◌<◌, ◌≤◌, List, [], ◌∷◌, ◌++◌, length, slice_get, slice_index, Option, Some}
 use Rattle.std.specs.List.{All}
 use Rattle.atomic_table.specs.Table.{Me, rest}
 use Rattle.qz_seats.specs.declared.view.View.{View}
 use Rattle.qz_seats.specs.Views.{draws, with_item, drawing, taking, losing, giving, adding}
-use Rattle.qz_seats.specs.SeatRule.{times, opening_of, mark_of, IsAt}
+use Rattle.qz_seats.specs.SeatRule.{times, opening_of, IsAt}
 
 -- The journal of a value that was lifted begins with the opening one and has each receipt of the pass at its place. A name
 -- that the pass has drawn and has no receipt for is not among the entries that came after.

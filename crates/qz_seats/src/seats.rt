@@ -21,6 +21,7 @@ use std::marker::Model;
 use std::snapshot::Snapshot;
 
 /// What a try to lift a value gives.
+#[derive(Drop)]
 pub enum Lift<V> {
     /// The value, which the pass then holds.
     Won(V),
@@ -91,7 +92,8 @@ impl<V: Journal> Seats<V> {
         values: Vec<V>,
         seats: u64,
     ) -> Result<(Seats<V>, Pass<V>), Memory>
-        where V: Drop
+    where
+        V: Drop,
         requires limit { limit ≤ 2 ^ 40 }
         requires values { vec_len values ≤ 16 }
         requires some_seat { 1 ≤ seats }
