@@ -5,6 +5,7 @@ use Rattle.std.specs.FinSet.{len, from_list, len-empty}
 use Rattle.std.specs.Map.{lookup}
 use Rattle.std.specs.Ordering.{nat_cmp}
 use Rattle.std.proofs.lemmas.List.{length-map}
+use Rattle.std.proofs.lemmas.List.Sums.{count_by-le-length}
 use Rattle.indexmap.specs.IndexMap.{IndexMap, get, index_map_len}
 use Rattle.qz_circ.specs.Bounds.{IsLawful}
 use Rattle.qz_circ.specs.Order.{all_circuits}
@@ -14,7 +15,7 @@ use Rattle.qz_shard.specs.Shards.{ShardParts, IsAtHome, print_at, classes_with}
 use Rattle.qz_shard.specs.Held.{prints_in, links_in, members_in, IsHeldBy, IsHeld, HasMembers, IsClassWith, IsOpenTo, Puts}
 use Rattle.qz_shard.proofs.ClassParts.{members_read}
 use Rattle.qz_shard.proofs.HeldShards.{with_entry, held_members, held_class, held_counted, held_joined, held_opened}
-use Rattle.qz_shard.proofs.Partitions.{classes_same}
+use Rattle.qz_shard.proofs.Partitions.{classes_same, few_classes}
 
 -- the same parts by other names
 pub held_as : (s s' : ShardParts) (prints prints' : List ℕ) (links links' : List (Option ℕ)) (members members' : List (List ℕ)) (newest : ℕ → Option ℕ) (keys keys' : ℕ) →
@@ -75,6 +76,17 @@ module _ {S : Type 0} (s : ShardParts) (classes : List Class) (newest : IndexMap
       subst (λ x. AreClassesOf x.bounds x.journal lists → steps ≤ start + classes_with x print lists) is
       (λ are. let all : count_by (λ p. p == print) (prints_in searched) ≡ count_by (λ p. p == print) (prints_in classes) = ap (λ xs. count_by (λ p. p == print) (prints_in xs)) at in
       omega (arith, search_counted print lists are, all, counted))
+
+  no_more_classes : length (members_in classes) ≤ length s.journal
+  unfolding AreClassesOf
+  no_more_classes = few_classes (AreEquivalentRanks s.bounds) s.journal (members_in classes) held.partition
+
+  -- and at most as many as there are entries, since there are no more classes than these
+  pub steps_few : (print start steps : ℕ) (searched : List Class) → searched ≡ classes → steps ≤ start + count_by (λ p. p == print) (prints_in searched) →
+      (seen : ShardParts) → s ≡ seen → steps ≤ start + length seen.journal
+  steps_few print start steps searched at counted seen is =
+      let all : count_by (λ p. p == print) (prints_in searched) ≡ count_by (λ p. p == print) (prints_in classes) = ap (λ xs. count_by (λ p. p == print) (prints_in xs)) at in
+      omega (arith, all, counted, count_by-le-length (λ p. p == print) (prints_in classes), prints_size, no_more_classes, ap (λ x. length x.journal) is)
 
   -- what is kept after a rank was put in
   pub held_after : (r print : ℕ) (found : Option ℕ) → print ≡ print_at s.bounds s.probe.seed r → r < length (all_circuits s.bounds) → (Contains s.journal r → ⊥) → IsAtHome s r → IsClassWith s.bounds classes print r found →

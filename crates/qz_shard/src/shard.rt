@@ -93,6 +93,7 @@ impl Shard {
         ensures err { OnErr result (self.new ≡ self.old) }
         ensures kept { steps.old ≤ steps.new }
         ensures counted { (classes : List (List ℕ)) → AreClassesOf self.old.bounds self.old.journal classes → steps.new ≤ steps.old + classes_with self.old print classes }
+        ensures few { steps.new ≤ steps.old + length self.old.journal }
     {
         let new = Arrival { rank: r, print };
         let found = find_class(

@@ -2,7 +2,7 @@ use Rattle.std.proofs.Common.{◌≡◌, ◌<◌, length, sym, subst, All, Conta
 use Rattle.qz_circ.specs.Order.{all_circuits}
 use Rattle.qz_shard.specs.Shards.{ShardParts, IsAtHome, print_at}
 use Rattle.qz_shard.specs.Held.{HasMembers, members_in, IsClassWith}
-use Rattle.qz_shard.proofs.ShardSteps.{search_members, steps_counted, open_to, held_after}
+use Rattle.qz_shard.proofs.ShardSteps.{search_members, steps_counted, steps_few, open_to, held_after}
 use Rattle.qz_shard.proofs.shard.Shard.add_with_print.Goals as goal
 
 -- the classes may be searched
@@ -46,3 +46,18 @@ invariant_of-self-2 g c =
     (subst (λ x. IsAtHome x c.args.r) (sym c.self.view_is) c.requires.home)
     (subst (λ xs. IsClassWith c.self.inside.bounds xs c.args.print c.args.r c.in_ok-found.found) c.deref.ensures.value c.in_ok-found.ensures.found)
     c.put.new.journal.items c.put.new.classes.items c.put.new.newest c.in_ok-put.ensures.ok
+
+pub returns-in_err-found-clause-few : goal.returns-in_err-found-clause-few
+returns-in_err-found-clause-few g c =
+    let s : ShardParts = record { number = c.self.inside.number; bounds = c.self.inside.bounds; probe = c.self.inside.probe; journal = c.self.inside.journal.items } in
+    steps_few s c.self.inside.classes.items c.self.inside.newest c.self.invariant c.args.print c.args.steps.now c.find_class.new.steps c.deref.result.now c.deref.ensures.value c.in_err-found.ensures.counted c.args.self.now c.self.view_is
+
+pub returns-in_err-put-clause-few : goal.returns-in_err-put-clause-few
+returns-in_err-put-clause-few g c =
+    let s : ShardParts = record { number = c.self.inside.number; bounds = c.self.inside.bounds; probe = c.self.inside.probe; journal = c.self.inside.journal.items } in
+    steps_few s c.self.inside.classes.items c.self.inside.newest c.self.invariant c.args.print c.args.steps.now c.find_class.new.steps c.deref.result.now c.deref.ensures.value c.in_ok-found.ensures.counted c.args.self.now c.self.view_is
+
+pub returns-clause-few : goal.returns-clause-few
+returns-clause-few g c =
+    let s : ShardParts = record { number = c.self.inside.number; bounds = c.self.inside.bounds; probe = c.self.inside.probe; journal = c.self.inside.journal.items } in
+    steps_few s c.self.inside.classes.items c.self.inside.newest c.self.invariant c.args.print c.args.steps.now c.find_class.new.steps c.deref.result.now c.deref.ensures.value c.in_ok-found.ensures.counted c.args.self.now c.self.view_is

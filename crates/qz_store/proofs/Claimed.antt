@@ -1,0 +1,74 @@
+-- Claims and receipts after a draw, a put and a join.
+use Rattle.std.proofs.Common.{◌≡◌, ◌≢◌, ℕ, zero, suc, ◌+◌, ◌<◌, ◌≤◌, ◌==◌, cond, List, [], ◌∷◌, ◌++◌, length, slice_get, Option, Some, None, sym, refl, ap, subst, ◌∙◌, eq-eqb, ne_eqb, arith}
+use Rattle.std.specs.Prelude.{◌↔◌}
+use Rattle.std.specs.List.{count_by}
+use Rattle.std.proofs.lemmas.List.Sums.{sum_by_push, sum_by-append}
+use mathlib.Core.Logic.{◌⊎◌, inl, inr, dite}
+use native.Mathlib.Decide.{ℕ_discrete}
+use Rattle.qz_seats.specs.declared.view.View.{View}
+use Rattle.qz_seats.specs.Receipts.{ReceiptParts}
+use Rattle.qz_seats.specs.Views.{with_item, joined}
+use Rattle.qz_seats.specs.SeatRule.{times}
+use Rattle.qz_store.specs.Stores.{HasClaimed, HasReceipt}
+
+-- how often a number is there after one more
+one_more : (x n : ℕ) (drawn : List ℕ) → times x (drawn ++ n ∷ []) ≡ times x drawn + cond (n == x) 1 0
+one_more x n drawn = sum_by_push (λ d. cond (d == x) 1 0) drawn n
+
+-- the name of one of the numbers
+abbrev IsDrawn : List ℕ → List ℕ → ℕ → Type 0
+IsDrawn names drawn r = (d : ℕ) × (slice_get names d ≡ Some r) × (0 < times d drawn)
+
+drawn_more : (names drawn : List ℕ) (n r : ℕ) → IsDrawn names (drawn ++ n ∷ []) r ↔ (IsDrawn names drawn r ⊎ (slice_get names n ≡ Some r))
+drawn_more names drawn n r =
+    (λ h. dite (ℕ_discrete n h.0)
+       (λ e. inr (ap (slice_get names) e ∙ h.1))
+       (λ ne. inl (h.0, h.1, (let same : cond {A = ℕ} (n == h.0) 1 0 ≡ 0 = ap (λ b. cond {A = ℕ} b 1 0) (ne_eqb n h.0 ne) in omega (arith, h.2, one_more h.0 n drawn)))),
+     λ h. elim h [
+       | inl old ↦ (old.0, old.1, omega (arith, old.2, one_more old.0 n drawn))
+       | inr at ↦ (n, at, (let same : cond {A = ℕ} (n == n) 1 0 ≡ 1 = ap (λ b. cond {A = ℕ} b 1 0) (eq-eqb n n refl) in omega (arith, one_more n n drawn)))
+     ])
+
+drawn_both : (names drawn more : List ℕ) (r : ℕ) → IsDrawn names (drawn ++ more) r ↔ (IsDrawn names drawn r ⊎ IsDrawn names more r)
+drawn_both names drawn more r =
+    (λ h. (let sum = sum_by-append (λ d. cond {A = ℕ} (d == h.0) 1 0) drawn more in
+       dite (ℕ_discrete (times h.0 drawn) 0)
+         (λ none. inr (h.0, h.1, omega (arith, h.2)))
+         (λ some. inl (h.0, h.1, omega (arith, h.2)))),
+     λ h. elim h [
+       | inl old ↦ (old.0, old.1, (let sum = sum_by-append (λ d. cond {A = ℕ} (d == old.0) 1 0) drawn more in omega (arith, old.2)))
+       | inr new ↦ (new.0, new.1, (let sum = sum_by-append (λ d. cond {A = ℕ} (d == new.0) 1 0) drawn more in omega (arith, new.2)))
+     ])
+
+-- after one draw the rank at its place is claimed too, if there is one
+pub claims_more : (v w : View) (n : ℕ) (answer : Option ℕ) → w.terms ≡ v.terms → w.drawn ≡ v.drawn ++ n ∷ [] → slice_get v.terms.names n ≡ answer
+    → (r : ℕ) → HasClaimed w r ↔ (HasClaimed v r ⊎ (answer ≡ Some r))
+claims_more v w n answer terms drawn at r =
+    subst (λ a. HasClaimed w r ↔ (HasClaimed v r ⊎ (a ≡ Some r))) at
+    (subst (λ t. IsDrawn t.names w.drawn r ↔ (HasClaimed v r ⊎ (slice_get v.terms.names n ≡ Some r))) (sym terms)
+    (subst (λ ds. IsDrawn v.terms.names ds r ↔ (HasClaimed v r ⊎ (slice_get v.terms.names n ≡ Some r))) (sym drawn)
+    (drawn_more v.terms.names v.drawn n r)))
+
+-- the claims of two passes together
+pub claims_both : (v u w : View) → w ≡ joined v u → u.terms ≡ v.terms → (r : ℕ) → HasClaimed w r ↔ (HasClaimed v r ⊎ HasClaimed u r)
+claims_both v u w is terms r =
+    subst (λ x. HasClaimed x r ↔ (HasClaimed v r ⊎ HasClaimed u r)) (sym is)
+    (subst (λ t. HasClaimed (joined v u) r ↔ (HasClaimed v r ⊎ IsDrawn t.names u.drawn r)) (sym terms)
+    (drawn_both v.terms.names v.drawn u.drawn r))
+
+-- and their receipts
+pub receipts_both : (v u w : View) → w ≡ joined v u → (r : ℕ) → HasReceipt w r ↔ (HasReceipt v r ⊎ HasReceipt u r)
+receipts_both v u w is r =
+    let sum = sum_by-append (λ (x : ReceiptParts). cond {A = ℕ} (x.item == r) 1 0) v.receipts u.receipts in
+    let all : with_item r w ≡ with_item r v + with_item r u = ap (with_item r) is ∙ sum in
+    (λ h. dite (ℕ_discrete (with_item r v) 0)
+       (λ none. inr (omega arith))
+       (λ some. inl (omega arith)),
+     λ h. elim h [ inl old ↦ omega arith | inr new ↦ omega arith ])
+
+-- the rank of a receipt has one, and all that had one have
+pub receipts_more : (v w : View) (receipt : ReceiptParts) → w ≡ record v { receipts = v.receipts ++ receipt ∷ [] } → HasReceipt w receipt.item × ((r : ℕ) → HasReceipt v r → HasReceipt w r)
+receipts_more v w receipt is =
+    let sum = λ (r : ℕ). ap (with_item r) is ∙ sum_by_push (λ (x : ReceiptParts). cond {A = ℕ} (x.item == r) 1 0) v.receipts receipt in
+    ((let here : cond {A = ℕ} (receipt.item == receipt.item) 1 0 ≡ 1 = ap (λ b. cond {A = ℕ} b 1 0) (eq-eqb receipt.item receipt.item refl) in omega (arith, sum receipt.item)),
+     λ r h. omega (arith, h, sum r))
