@@ -1,2 +1,7 @@
 pub mod Claimed
+pub mod Closed
+pub mod Lifted
+pub mod Moved
+pub mod Opened
+pub mod Places
 pub mod Rising

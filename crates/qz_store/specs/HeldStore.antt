@@ -1,5 +1,6 @@
 -- What a store in memory keeps.
 use Rattle.std.specs.Prelude.{◌≡◌, ℕ, ◌<◌, ◌≤◌, List, [], ◌∷◌, length, Contains, All}
+use Rattle.qz_circ.specs.Bounds.{IsLawful}
 use Rattle.qz_circ.specs.Circuit.{Limits}
 use Rattle.qz_circ.specs.Order.{all_circuits}
 use Rattle.qz_finger.specs.Fingerprint.{ProbeParts}
@@ -24,6 +25,7 @@ pub record IsStore (s : StoreParts) (list : List ℕ) (room : List ShardParts) (
   pub sixteen : count_of s.seats.terms ≡ 16
   pub marks : (k : ℕ) → k < 16 → mark_of s.seats.terms k ≡ mark_with s.bounds s.probe k
   pub absent : (k r : ℕ) → Contains (list_of s) r → Contains (old_journal s k) r → ⊥
+  pub lawful : IsLawful s.bounds
   pub qubits : s.probe.q ≡ s.bounds.q
   pub empty : room ≡ []
   pub room_is : 16 ≤ capacity
