@@ -7,11 +7,10 @@ use Rattle.std.proofs.lemmas.List.{length-map}
 use Rattle.std.proofs.lemmas.Option.{slice_get-get_or, slice_get-map, slice_get_within}
 use Rattle.qz_seats.specs.declared.view.View.{View}
 use Rattle.qz_seats.specs.Receipts.{ReceiptParts}
-use Rattle.qz_seats.specs.Views.{placed}
-use Rattle.qz_seats.specs.SeatRule.{between, count_of, opening_of, IsAt}
+use Rattle.qz_seats.specs.SeatRule.{between, count_of, opening_of}
 use Rattle.qz_seats.specs.Answers.{IsClosed}
 use Rattle.qz_shard.specs.Shards.{ShardParts, IsShard, IsAtHome, home_of}
-use Rattle.qz_store.specs.Stores.{StoreParts, list_of, old_journal, home_in, HasClaimed}
+use Rattle.qz_store.specs.Stores.{StoreParts, list_of, old_journal, HasClaimed}
 use Rattle.qz_store.specs.Opening.{IsNumber}
 use Rattle.qz_store.specs.Closing.{IsGrownShard, IsKeptReceipt, IsClosedStore}
 use Rattle.qz_store.specs.HeldStore.{shard_mark, IsStore}

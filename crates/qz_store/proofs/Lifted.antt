@@ -8,7 +8,6 @@ use mathlib.Core.Logic.{inl, inr}
 use Rattle.qz_circ.specs.Circuit.{Limits}
 use Rattle.qz_circ.specs.Order.{all_circuits}
 use Rattle.qz_finger.specs.Fingerprint.{ProbeParts}
-use Rattle.qz_seats.specs.declared.view.Terms.{Terms}
 use Rattle.qz_seats.specs.declared.view.View.{View}
 use Rattle.qz_seats.specs.Receipts.{ReceiptParts}
 use Rattle.qz_seats.specs.Views.{with_item, taking, adding, giving}
@@ -61,8 +60,11 @@ module _ (s : StoreParts) (list : List ℕ) (room : List ShardParts) (capacity :
         let none : with_item r v ≡ 0 = omega (arith, pending.unput) in
         elim (Contains-append_cases (opening_of v.terms i) lifted.after r (subst (λ xs. Contains xs r) lifted.begins has)) [
           | inl old ↦ store.absent i r (claimed_contained r pending.claimed) (subst (λ t. Contains (opening_of t i) r) terms old)
-          | inr new ↦ omega (arith, times_some lifted.after r new,
-              lifted.absent (λ e. has_names (sym (ap (λ t. t.names) terms) ∙ e)) pending.claimed.0 r pending.claimed.1 pending.claimed.2 none)
+          | inr new ↦ omega (
+            arith,
+            times_some lifted.after r new,
+            lifted.absent (λ e. has_names (sym (ap (λ t. t.names) terms) ∙ e)) pending.claimed.0 r pending.claimed.1 pending.claimed.2 none,
+          )
         ]
 
     module _ {V : Type 0} (S : V → ShardParts) (N : V → List ℕ) where

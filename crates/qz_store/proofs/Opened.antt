@@ -12,7 +12,6 @@ use Rattle.qz_circ.specs.Circuit.{Limits}
 use Rattle.qz_circ.specs.Order.{all_circuits}
 use Rattle.qz_circ.proofs.RankLemmas.{all_few}
 use Rattle.qz_finger.specs.Fingerprint.{ProbeParts}
-use Rattle.qz_seats.specs.declared.view.Terms.{Terms}
 use Rattle.qz_seats.specs.SeatRule.{AreDifferent, names_of, terms_of, mark_of}
 use Rattle.qz_seats.specs.Parts.{SeatsParts}
 use Rattle.qz_seats.specs.Answers.{HaveNames}

@@ -4,8 +4,6 @@
 
 mod kept;
 mod store;
-#[cfg(test)]
-mod tests;
 
 pub use kept::{Kept, Pass};
 pub use store::{Put, Store};

@@ -3,7 +3,7 @@ ghost use Rattle.std.specs.Prelude.{◌≡◌, ◌≢◌, ◌⊎◌, ◌↔◌, 
 ghost use Rattle.qz_circ.specs.Order.{all_circuits};
 ghost use Rattle.qz_seats.specs.Views.{draws, after_split, newcomer, joined, first_view};
 ghost use Rattle.qz_seats.specs.Parts.{IsOf};
-ghost use Rattle.qz_store.specs.Stores.{print_in, IsFree, HasClaimed, HasReceipt, IsPending};
+ghost use Rattle.qz_store.specs.Stores.{list_of, print_in, IsFree, HasClaimed, HasReceipt, IsPending};
 ghost use Rattle.qz_store.specs.Opening.{AreSixteen, IsNewList, IsOpened};
 ghost use Rattle.qz_store.specs.Claims.{ClaimGives};
 ghost use Rattle.qz_store.specs.Puts.{PutGives, PutCounts};
@@ -112,6 +112,7 @@ impl Store {
         ensures pending { IfSome result (IsPending pass.new.view) }
         ensures listed { IfSome result (λ r. r < length (all_circuits self.now.bounds)) }
         ensures ended { (result ≡ None) ↔ (pass.new.view.ended ≡ true) }
+        ensures limit { pass.new.view.terms.limit ≡ length (list_of self.now) }
         ensures rest { pass.new.view ≡ record pass.old.view { drawn = pass.new.view.drawn; ended = pass.new.view.ended } }
     {
         let number = self.seats.draw(pass)?;

@@ -15,12 +15,12 @@ loop-packed-preserved c =
     let is : kept.shard ≡ get_or rest 0 kept.shard = subst (λ x. x ≡ get_or rest 0 x) (sym c.kept_of.ensures.shard_is) c.remove.ensures.value in
     record {
       moved =
-        ap (λ ys. map (λ (x : Kept). x.shard) ys ++ c.remove.new.self.items) items
-        ∙ (ap (λ zs. map (λ (x : Kept). x.shard) (done ++ kept ∷ []) ++ zs) c.remove.ensures.items
-        ∙ (moved_from (λ (x : Kept). x.shard) done rest kept some is ∙ c.loop-packed.invariant.moved));
+          ap (λ ys. map (λ (x : Kept). x.shard) ys ++ c.remove.new.self.items) items
+          ∙ (ap (λ zs. map (λ (x : Kept). x.shard) (done ++ kept ∷ []) ++ zs) c.remove.ensures.items
+          ∙ (moved_from (λ (x : Kept). x.shard) done rest kept some is ∙ c.loop-packed.invariant.moved));
       names = subst (All (λ (x : Kept). x.names.value.items ≡ c.args.list.now.items)) (sym items)
-        (All-push (λ (x : Kept). x.names.value.items ≡ c.args.list.now.items) done kept c.loop-packed.invariant.names c.kept_of.ensures.names);
+          (All-push (λ (x : Kept). x.names.value.items ≡ c.args.list.now.items) done kept c.loop-packed.invariant.names c.kept_of.ensures.names);
       are_shards = subst (All (λ (x : Kept). IsShard x.shard)) (sym items)
-        (All-push (λ (x : Kept). IsShard x.shard) done kept c.loop-packed.invariant.are_shards (subst IsShard (sym c.kept_of.ensures.shard_is) c.kept_of.ensures.is_shard));
+          (All-push (λ (x : Kept). IsShard x.shard) done kept c.loop-packed.invariant.are_shards (subst IsShard (sym c.kept_of.ensures.shard_is) c.kept_of.ensures.is_shard));
       room = omega (arith, c.loop-packed.invariant.room, c.push_reserved.ensures.len, c.push_reserved.ensures.capacity, c.remove.ensures.len);
     }

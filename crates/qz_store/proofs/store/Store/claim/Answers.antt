@@ -1,4 +1,4 @@
-use Rattle.std.proofs.Common.{◌≡◌, ◌<◌, length, slice_get, Some, None, sym, refl, ap, subst, ◌∙◌, arith, rules}
+use Rattle.std.proofs.Common.{◌≡◌, length, Some, None, sym, ap, subst, ◌∙◌, arith, rules}
 use Rattle.std.specs.Prelude.{◌↔◌, ◌⊎◌}
 use Rattle.qz_store.specs.Stores.{HasClaimed}
 use Rattle.qz_store.proofs.Claimed.{rank_at, claims_none, claims_some, pending_new}
@@ -10,7 +10,7 @@ returns-in_err-number-clause-claims c =
     let limit = ap (λ t. t.limit) c.requires.1 ∙ (sym (ap (λ s. s.seats.terms.limit) c.self.view_is) ∙ c.self.invariant.limit_is) in
     let names = ap (λ t. t.names) c.requires.1 ∙ sym (ap (λ s. s.seats.terms.names) c.self.view_is) in
     λ r. subst (λ a. HasClaimed c.draw.new.pass.view r ↔ (HasClaimed c.args.pass.now.view r ⊎ (a ≡ Some r))) (sym none)
-      (claims_none c.args.pass.now.view c.draw.new.pass.view c.in_err-number.ensures.drew (omega (arith, limit, ap length names)) r)
+    (claims_none c.args.pass.now.view c.draw.new.pass.view c.in_err-number.ensures.drew (omega (arith, limit, ap length names)) r)
 
 pub returns-clause-gives : goal.returns-clause-gives
 returns-clause-gives c =

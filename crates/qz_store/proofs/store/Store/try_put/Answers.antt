@@ -1,4 +1,4 @@
-use Rattle.std.proofs.Common.{◌≡◌, sym, ap, subst, ◌∙◌}
+use Rattle.std.proofs.Common.{sym, subst}
 use Rattle.qz_circ.specs.Circuit.{Within}
 use Rattle.qz_circ.proofs.MoreParameters.{on_qubits}
 use Rattle.qz_store.proofs.store.Store.try_put.Goals as goal

@@ -1,7 +1,6 @@
-use Rattle.std.proofs.Common.{◌≡◌, ◌<◌, ◌%◌, ◌++◌, ◌∷◌, [], length, sym, refl, ap, subst, ◌∙◌, arith}
+use Rattle.std.proofs.Common.{◌<◌, ◌%◌, length, sym, ap, subst, ◌∙◌, arith}
 use Rattle.qz_circ.specs.Order.{all_circuits}
 use Rattle.qz_store.specs.declared.kept.Kept.{Kept}
-use Rattle.qz_store.specs.Stores.{list_of, home_in}
 use Rattle.qz_store.proofs.Lifted.{claimed_listed, pending_absent, lifted_number, last_item, put_becomes}
 use Rattle.qz_store.proofs.store.Store.try_put_with_print.Goals as goal
 
