@@ -1,5 +1,6 @@
 //! The store and its calls.
 ghost use Rattle.std.specs.Prelude.{◌≡◌, ◌≢◌, ◌⊎◌, ◌↔◌, ℕ, ◌<◌, ◌≤◌, true, length, None, Some, IfSome, IfOk};
+ghost use Rattle.qz_circ.specs.Bounds.{IsLawful};
 ghost use Rattle.qz_circ.specs.Order.{all_circuits};
 ghost use Rattle.qz_seats.specs.Views.{draws, after_split, newcomer, joined, first_view};
 ghost use Rattle.qz_seats.specs.Parts.{IsOf};
@@ -90,14 +91,16 @@ impl Store {
 
     /// The bounds of its circuits.
     pub fn bounds(&self) -> Bounds
-        ensures { result ≡ self.now.bounds }
+        ensures value { result ≡ self.now.bounds }
+        ensures lawful { IsLawful self.now.bounds }
     {
         self.bounds
     }
 
-    /// The probe of its fingerprints.
+    /// The probe of its fingerprints, which is for the bounds' qubits.
     pub fn probe(&self) -> Probe
-        ensures { result ≡ self.now.probe }
+        ensures value { result ≡ self.now.probe }
+        ensures qubits { self.now.probe.q ≡ self.now.bounds.q }
     {
         self.probe
     }
