@@ -83,12 +83,12 @@ is_arrow Arrow = true
 is_arrow _ = false
 
 -- the value of a whole number
-abbrev pub whole_value : Kind → ℕ
-whole_value (Whole n) = n
-whole_value _ = 0
+abbrev pub number_of : Kind → ℕ
+number_of (Whole n) = n
+number_of _ = 0
 
 abbrev pub value_of : Lexeme → ℕ
-value_of l = whole_value (kind_of l)
+value_of l = number_of (kind_of l)
 
 -- the word with this spelling
 abbrev pub is_spelled : List ℕ → Lexeme → Bool
@@ -196,8 +196,8 @@ measure_form len ls = do
 -- ---- gates
 
 -- the tokens with one more before them
-abbrev pub with_token : Lexeme → Read (List Lexeme) → Read (List Lexeme)
-with_token l read = do
+abbrev pub with_lexeme : Lexeme → Read (List Lexeme) → Read (List Lexeme)
+with_lexeme l read = do
   x ← read
   Ok (l ∷ x.0, x.1)
 
@@ -207,10 +207,10 @@ unfoldable pub enclosed : ℕ → ℕ → List Lexeme → Read (List Lexeme)
 enclosed more_open len [] = misfit len []
 enclosed more_open len (l ∷ ls) =
     if is_semicolon (kind_of l) then misfit len (l ∷ ls)
-    else if is_left_paren (kind_of l) then with_token l (enclosed (more_open + 1) len ls)
-    else if not (is_right_paren (kind_of l)) then with_token l (enclosed more_open len ls)
+    else if is_left_paren (kind_of l) then with_lexeme l (enclosed (more_open + 1) len ls)
+    else if not (is_right_paren (kind_of l)) then with_lexeme l (enclosed more_open len ls)
     else if more_open == 0 then Ok ([], ls)
-    else with_token l (enclosed (more_open - 1) len ls)
+    else with_lexeme l (enclosed (more_open - 1) len ls)
 
 -- the tokens of an angle, at least one, in parentheses
 unfoldable pub angle_form : ℕ → List Lexeme → Read (List Lexeme)

@@ -1,5 +1,5 @@
--- The gates that a program may name, and what each is read as. The names are those of OpenQASM 2.0's qelib1.inc, and `p`. Each
--- is the gate of its name up to a global phase.
+-- The gates that a program may name, and what each is read as. The names are those of OpenQASM 2.0's qelib1.inc, but that
+-- `p` is of later versions and `swap` this project's own. Each is the gate of its name up to a global phase.
 use Rattle.std.specs.Prelude.{ℕ, zero, suc, Bool, true, false, if◌then◌else◌, List, [], ◌∷◌, codes, Option, Some, None}
 use Rattle.std.specs.Str.{bytes_eq}
 use Rattle.qz_circ.specs.declared.circuit.Inst.{Inst}

@@ -1,14 +1,16 @@
--- Which texts are those of tokens, said without regard to how tokens are found or to how long they may be. (OpenQASM 2.0.)
-use Rattle.std.specs.Prelude.{◌≡◌, ◌≢◌, ℕ, ◌+◌, ◌<◌, ◌≤◌, ◌⊎◌, true, List, [], ◌∷◌, ◌++◌, length, take, codes, Some, None, Result, Ok, Err}
+-- Which texts are those of tokens and of what stands between them, and how a text is cut into them, said without regard to how
+-- tokens are found. (OpenQASM 2.0.)
+use Rattle.std.specs.Prelude.{◌≡◌, ◌≢◌, ℕ, ◌+◌, ◌-◌, ◌<◌, ◌≤◌, ◌⊎◌, true, List, [], ◌∷◌, ◌++◌, length, take, drop, codes, Option, Some, None, Result, Ok, Err}
 use Rattle.std.specs.Char.{is_ascii_digit, is_ascii_alphabetic}
 use Rattle.std.specs.List.{list_all}
 use Rattle.std.specs.Str.Parse.{digits_value}
+use Rattle.qz_circ.specs.declared.token.Token.{Token}
 use Rattle.qz_circ.specs.declared.token.Kind.{Kind}
 use Rattle.qz_circ.specs.declared.token.Kind.TheVariants.{Word, Pi, Whole, Real, Text, Semicolon, Comma, LeftParen, RightParen, LeftBracket, RightBracket, LeftBrace, RightBrace, Plus, Minus, Star, Slash, Caret, Arrow, Equal}
 use Rattle.qz_circ.specs.declared.fault.LexFault.{LexFault}
 use Rattle.qz_circ.specs.declared.fault.LexFault.TheVariants.{BadByte, LongName, BigNumber, Memory}
 use Rattle.qz_circ.specs.ProgramLimits.{longest_word, most_digits}
-use Rattle.qz_circ.specs.Tokens.{Front, is_in_word, is_in_quotes}
+use Rattle.qz_circ.specs.Tokens.{Front, is_blank, is_in_line, is_in_word, is_in_quotes}
 
 -- only digits, perhaps none
 abbrev pub AreDigits : List ℕ → Type 0
@@ -78,13 +80,26 @@ Spells Caret z = z ≡ codes "^"
 Spells Arrow z = z ≡ codes "->"
 Spells Equal z = z ≡ codes "=="
 
--- What was found is at least so long, or is a name or a number past its limit. It isn't that no token begins here.
-abbrev pub Reaches : ℕ → Result Front LexFault → Type 0
-Reaches len (Ok first) = len ≤ first.1
-Reaches len (Err (LongName place)) = Unit {0}
-Reaches len (Err (BigNumber place)) = Unit {0}
-Reaches len (Err (BadByte place)) = ⊥
-Reaches len (Err Memory) = ⊥
+-- space, tab, carriage return and line feed, at least one of them
+abbrev pub AreBlanks : List ℕ → Type 0
+AreBlanks z = (list_all is_blank z ≡ true) × (0 < length z)
+
+-- two slashes, and then bytes none of which is a line feed
+pub record IsComment (z : List ℕ) : Type 0 where
+  pub inside : List ℕ
+  pub is : z ≡ codes "//" ++ inside
+  pub bytes : list_all is_in_line inside ≡ true
+
+-- the text is one of a token of this kind, or of a gap where there is none
+abbrev pub IsTextOf : Option Kind → List ℕ → Type 0
+IsTextOf (Some kind) z = Spells kind z
+IsTextOf None z = AreBlanks z ⊎ IsComment z
+
+-- The first n bytes are a token of this kind, or a gap, and no text of a token or of a gap with which the text begins is longer.
+pub record IsLongest (what : Option Kind) (n : ℕ) (z : List ℕ) : Type 0 where
+  pub within : n ≤ length z
+  pub fits : IsTextOf what (take n z)
+  pub longest : (other : Option Kind) (x rest : List ℕ) → z ≡ x ++ rest → IsTextOf other x → length x ≤ n
 
 -- words and whole numbers are within their limits of length
 abbrev pub IsWithinLimit : Kind → ℕ → Type 0
@@ -92,12 +107,38 @@ IsWithinLimit Word n = n ≤ longest_word
 IsWithinLimit (Whole value) n = n ≤ most_digits
 IsWithinLimit kind n = Unit {0}
 
--- What was found at the front of a text at a place: a token's text of its kind and within its limit, or a gap; a name of over
--- 64 bytes, or over eighteen digits; or no token.
+-- What is taken at the front of a text at a place: the longest gap; or the longest token, within its limit. A word or a whole
+-- number past its limit that is the longest token is a fault at the place, and so is a byte with which no token and no gap begins.
 abbrev pub IsRight : ℕ → List ℕ → Result Front LexFault → Type 0
-IsRight place z (Ok (Some kind, n)) = Spells kind (take n z) × IsWithinLimit kind n
-IsRight place z (Ok (None, n)) = Unit {0}
-IsRight place z (Err (LongName p)) = (p ≡ place) × ((n : ℕ) × IsWord (take n z) × (longest_word < n) × (n ≤ length z))
-IsRight place z (Err (BigNumber p)) = (p ≡ place) × ((n : ℕ) × AreDigits (take n z) × (most_digits < n) × (n ≤ length z))
-IsRight place z (Err (BadByte p)) = p ≡ place
+IsRight place z (Ok (Some kind, n)) = IsLongest (Some kind) n z × IsWithinLimit kind n
+IsRight place z (Ok (None, n)) = IsLongest None n z
+IsRight place z (Err (LongName p)) = (p ≡ place) × ((n : ℕ) × IsLongest (Some Word) n z × (longest_word < n))
+IsRight place z (Err (BigNumber p)) = (p ≡ place) × ((n value : ℕ) × IsLongest (Some (Whole value)) n z × (most_digits < n))
+IsRight place z (Err (BadByte p)) = (p ≡ place) × ((what : Option Kind) (x rest : List ℕ) → z ≡ x ++ rest → IsTextOf what x → ⊥)
 IsRight place z (Err Memory) = ⊥
+
+-- ---- whole texts
+
+-- From one place to another there are gaps of these lengths, one after the other, each the longest that fits where it begins.
+abbrev pub AreGapsOf : List ℕ → ℕ → ℕ → List ℕ → Type 0
+AreGapsOf z from to [] = from ≡ to
+AreGapsOf z from to (n ∷ lengths) = IsLongest None n (drop from z) × AreGapsOf z (from + n) to lengths
+
+-- nothing but gaps stands from one place to another
+abbrev pub AreGaps : List ℕ → ℕ → ℕ → Type 0
+AreGaps z from to = (lengths : List ℕ) × AreGapsOf z from to lengths
+
+-- The token has its own text: that from its start to its end, which is one of its kind, within its limit, and the longest that
+-- fits where it begins.
+abbrev pub HasItsText : List ℕ → Token → Type 0
+HasItsText z t = IsLongest (Some t.kind) (t.end - t.start) (drop t.start z) × IsWithinLimit t.kind (t.end - t.start)
+
+-- From one place to another these tokens stand in order, each with its text, and nothing but gaps between them.
+abbrev pub AreInOrder : List ℕ → ℕ → ℕ → List Token → Type 0
+AreInOrder z from to [] = AreGaps z from to
+AreInOrder z from to (t ∷ ts) = (from ≤ t.start) × AreGaps z from t.start × HasItsText z t × AreInOrder z t.end to ts
+
+-- The tokens of a text stand in order from its first byte to its end; or they stand so up to a place, and at it is the fault.
+abbrev pub IsCut : List ℕ → Result (List Token) LexFault → Type 0
+IsCut z (Ok ts) = AreInOrder z 0 (length z) ts
+IsCut z (Err e) = (ts : List Token) × (place : ℕ) × AreInOrder z 0 place ts × IsRight place (drop place z) (Err e)

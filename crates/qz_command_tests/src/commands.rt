@@ -52,35 +52,42 @@ fn wants(out: &MemSink) -> u64 {
     out.wants()
 }
 
-// Whether the words give these rules, and the status of success.
-fn is_written(alloc: Global, words: &[String], rules: &str) -> bool {
+fn read(words: &[String]) -> Result<Command, WordFault> {
+    read_words(words)
+}
+
+// ---- what is written
+
+// Whether the words give this text, and the status of success.
+fn is_written(alloc: Global, words: &[String], text: &str) -> bool {
     let mut out = sink(alloc);
     let status = answer(alloc, words, &mut out);
-    status == Status::Ok && written(&out) == rules.as_bytes() && wants(&out) == 0
+    status == Status::Ok && written(&out) == text.as_bytes() && wants(&out) == 0
 }
 
-// The words of this text give these rules.
-pub(super) fn writes(rt: &impl Abort, alloc: Global, text: &str, rules: &str) {
-    let done = words_of(alloc, text).is_ok_and(|words| is_written(alloc, &words, rules));
-    assert!(rt; done, "at {text}");
+// The words of each first text give the second one.
+pub(super) fn writes(rt: &impl Abort, alloc: Global, rows: &[(&str, &str)]) {
+    for (text, rules) in rows {
+        let done = words_of(alloc, text).is_ok_and(|words| is_written(alloc, &words, rules));
+        assert!(rt; done, "at {text}");
+    }
 }
 
+// A report changes nothing of the rules, nor do the seed and the workers.
 #[test]
 fn writes_rules(rt: HostRuntime) {
-    let alloc = rt.alloc();
-    let none = "quartz-rules 1\nbounds 0 1 0\nclasses 0\nend\n";
-    writes(&rt, alloc, "generate 0 1 0", none);
-    let none = "quartz-rules 1\nbounds 1 2 0\nclasses 0\nend\n";
-    writes(&rt, alloc, "generate 01 2 000", none);
-    writes(&rt, alloc, "generate 2 1 0", two_gates());
-    writes(&rt, alloc, "generate 2 1 0 --workers 2", two_gates());
-    writes(
-        &rt,
-        alloc,
-        "generate 2 1 0 --seed 2 --workers 16",
-        two_gates(),
-    );
-    assert_eq!(rt; number_of(Status::Ok), 0);
+    let no_gates = "quartz-rules 1\nbounds 0 1 0\nclasses 0\nend\n";
+    let one_gate = "quartz-rules 1\nbounds 1 2 0\nclasses 0\nend\n";
+    let rows = [
+        ("generate 0 1 0", no_gates),
+        ("generate 01 2 000", one_gate),
+        ("generate 2 1 0", two_gates()),
+        ("generate 2 1 0 --workers 2", two_gates()),
+        ("generate 2 1 0 --seed 2 --workers 16", two_gates()),
+        ("generate 2 1 0 --report", two_gates()),
+        ("generate 2 1 0 --report --seed 1 --workers 2", two_gates()),
+    ];
+    writes(&rt, rt.alloc(), &rows);
 }
 
 // Whether the text is of so many lines, and has each of these parts.
@@ -140,48 +147,17 @@ fn ends_after(rt: &impl Abort, alloc: Global, stop: u64, end: &str) -> Result<()
 fn ends_at_a_write_fault(rt: HostRuntime) -> Result<(), Fail> {
     ends_after(&rt, rt.alloc(), 0, "")?;
     ends_after(&rt, rt.alloc(), 100, "rz")?;
-    assert_eq!(rt; number_of(Status::WriteFault), 9);
     Ok(())
 }
 
-// Whether the words are refused with this status, and nothing is written.
-fn is_refused(alloc: Global, words: &[String], status: Status) -> bool {
-    let mut out = sink(alloc);
-    answer(alloc, words, &mut out) == status && written(&out).is_empty()
-}
+// ---- what words ask for
 
-// The words of this text are refused with this status.
-pub(super) fn refuses(rt: &impl Abort, alloc: Global, text: &str, status: Status) {
-    let done = words_of(alloc, text).is_ok_and(|words| is_refused(alloc, &words, status));
-    assert!(rt; done, "at {text}");
-}
-
-// A report changes nothing of the rules, whatever the seed is.
-#[test]
-fn writes_the_same_rules_with_a_report(rt: HostRuntime) {
-    let alloc = rt.alloc();
-    writes(&rt, alloc, "generate 2 1 0 --report", two_gates());
-    let text = "generate 2 1 0 --report --seed 1 --workers 2";
-    writes(&rt, alloc, text, two_gates());
-    let qubits = Status::Limit(Which::BoundsQubits);
-    refuses(&rt, alloc, "generate 2 4 0 --report", qubits);
-    refuses(&rt, alloc, "generate 2 1 0 --report 1", Status::Usage);
-}
-
-fn read(words: &[String]) -> Result<Command, WordFault> {
-    read_words(words)
-}
-
-// The words of this text ask for this command.
-fn asks(rt: &impl Abort, alloc: Global, text: &str, command: Option<Command>) {
-    let done = words_of(alloc, text).is_ok_and(|words| read(&words).ok() == command);
-    assert!(rt; done && command.is_some(), "at {text}");
-}
-
-// The words of this text are refused for this.
-fn faults_of(rt: &impl Abort, alloc: Global, text: &str, fault: WordFault) {
-    let done = words_of(alloc, text).is_ok_and(|words| read(&words) == Err(fault));
-    assert!(rt; done, "at {text}");
+// The words of each text ask for this command.
+fn asks(rt: &impl Abort, alloc: Global, rows: &[(&str, Option<Command>)]) {
+    for (text, command) in rows {
+        let done = words_of(alloc, text).is_ok_and(|words| read(&words).ok() == *command);
+        assert!(rt; done && command.is_some(), "at {text}");
+    }
 }
 
 // The generation of two gates on one qubit.
@@ -193,20 +169,6 @@ fn generation(workers: u64, seed: u64, report: bool) -> Option<Command> {
         seed,
         report,
     })
-}
-
-#[test]
-fn reads_options_of_a_generation(rt: HostRuntime) {
-    let alloc = rt.alloc();
-    asks(&rt, alloc, "generate 2 1 0", generation(1, 0, false));
-    let text = "generate 2 1 0 --workers 16 --seed 999999999999999999 --report";
-    let all = generation(16, 999_999_999_999_999_999, true);
-    asks(&rt, alloc, text, all);
-    let text = "generate 002 01 0 --report --seed 007 --workers 02";
-    asks(&rt, alloc, text, generation(2, 7, true));
-    let text = "generate 2 1 0 --seed 1";
-    asks(&rt, alloc, text, generation(1, 1, false));
-    asks(&rt, alloc, "tidy", Some(Command::Tidy));
 }
 
 // An optimisation by the file that this word names, with a plan of so many rounds and circuits.
@@ -221,23 +183,47 @@ fn optimisation(rules: usize, plan: [u64; 4], workers: u64) -> Option<Command> {
 
 // The value of an option is the next word, whatever it is.
 #[test]
-fn reads_options_of_an_optimisation(rt: HostRuntime) {
-    let alloc = rt.alloc();
-    let default = [16, 8, 100, 0];
-    asks(
-        &rt,
-        alloc,
-        "optimise --rules r",
-        optimisation(2, default, 1),
-    );
-    let text = "optimise --slack 4 --cap 500 --batch 64 --rounds 64 --workers 16 --rules r";
-    asks(&rt, alloc, text, optimisation(12, [64, 64, 500, 4], 16));
-    let text = "optimise --rules --cap --cap 7";
-    asks(&rt, alloc, text, optimisation(2, [16, 8, 7, 0], 1));
-    let text = "optimise --rounds 0 --rules --rules --workers 4";
-    asks(&rt, alloc, text, optimisation(4, [0, 8, 100, 0], 4));
-    let text = "optimise --batch 1 --rules tidy --rounds 4096";
-    asks(&rt, alloc, text, optimisation(4, [4096, 1, 100, 0], 1));
+fn reads_options(rt: HostRuntime) {
+    let all = "generate 2 1 0 --workers 16 --seed 999999999999999999 --report";
+    let padded = "generate 002 01 0 --report --seed 007 --workers 02";
+    let generations = [
+        ("generate 2 1 0", generation(1, 0, false)),
+        (all, generation(16, 999_999_999_999_999_999, true)),
+        (padded, generation(2, 7, true)),
+        ("generate 2 1 0 --seed 1", generation(1, 1, false)),
+        ("tidy", Some(Command::Tidy)),
+    ];
+    asks(&rt, rt.alloc(), &generations);
+    let all = "optimise --slack 4 --cap 500 --batch 64 --rounds 64 --workers 16 --rules r";
+    let of_options = "optimise --rounds 0 --rules --rules --workers 4";
+    let of_a_command = "optimise --batch 1 --rules tidy --rounds 4096";
+    let optimisations = [
+        ("optimise --rules r", optimisation(2, [16, 8, 100, 0], 1)),
+        (all, optimisation(12, [64, 64, 500, 4], 16)),
+        (
+            "optimise --rules --cap --cap 7",
+            optimisation(2, [16, 8, 7, 0], 1),
+        ),
+        (of_options, optimisation(4, [0, 8, 100, 0], 4)),
+        (of_a_command, optimisation(4, [4096, 1, 100, 0], 1)),
+    ];
+    asks(&rt, rt.alloc(), &optimisations);
+}
+
+// ---- what is refused
+
+// Whether the words are refused with this status, and nothing is written.
+fn is_refused(alloc: Global, words: &[String], status: Status) -> bool {
+    let mut out = sink(alloc);
+    answer(alloc, words, &mut out) == status && written(&out).is_empty()
+}
+
+// The words of each text are refused with this status.
+pub(super) fn refuses(rt: &impl Abort, alloc: Global, rows: &[(&str, Status)]) {
+    for (text, status) in rows {
+        let done = words_of(alloc, text).is_ok_and(|words| is_refused(alloc, &words, *status));
+        assert!(rt; done, "at {text}");
+    }
 }
 
 #[test]
@@ -245,35 +231,52 @@ fn refuses_words(rt: HostRuntime) {
     let alloc = rt.alloc();
     assert!(rt; is_refused(alloc, &[], Status::Usage));
     let usage = Status::Usage;
-    refuses(&rt, alloc, "", usage);
-    refuses(&rt, alloc, "generate 2 1", usage);
-    refuses(&rt, alloc, "generate 2 1 x", usage);
-    refuses(&rt, alloc, "generate 2 1 ", usage);
-    refuses(&rt, alloc, "generate 2 +1 0", usage);
-    refuses(&rt, alloc, "generate 2 1 0000000000000000000", usage);
-    refuses(&rt, alloc, "generate 9 9 x", usage);
-    refuses(&rt, alloc, "generate 2 1 0 --seed 1 --seed 2", usage);
-    refuses(&rt, alloc, "tidy now", usage);
-    refuses(&rt, alloc, "optimise", usage);
-    assert_eq!(rt; number_of(Status::Usage), 2);
+    let rows = [
+        ("", usage),
+        ("generate 2 1", usage),
+        ("generate 2 1 x", usage),
+        ("generate 2 1 ", usage),
+        ("generate 2 +1 0", usage),
+        ("generate 2 1 0000000000000000000", usage),
+        ("generate 9 9 x", usage),
+        ("generate 2 1 0 --seed 1 --seed 2", usage),
+        ("generate 2 1 0 --report 1", usage),
+        ("tidy now", usage),
+        ("optimise", usage),
+    ];
+    refuses(&rt, alloc, &rows);
+    let qubits = Status::Limit(Which::BoundsQubits);
+    let rows = [
+        ("generate 2 4 0", qubits),
+        ("generate 2 4 0 --report", qubits),
+        ("generate 7 1 0", Status::Limit(Which::BoundsGates)),
+        ("generate 1 1 4", Status::Limit(Which::BoundsParams)),
+        ("generate 5 2 2", Status::Limit(Which::BoundsCircuits)),
+        ("generate 999999999999999999 000000000000000004 9", qubits),
+    ];
+    refuses(&rt, alloc, &rows);
 }
 
 #[test]
-fn refuses_numbers_past_a_limit(rt: HostRuntime) {
-    let alloc = rt.alloc();
-    let qubits = Status::Limit(Which::BoundsQubits);
-    let gates = Status::Limit(Which::BoundsGates);
-    let params = Status::Limit(Which::BoundsParams);
-    let circuits = Status::Limit(Which::BoundsCircuits);
-    refuses(&rt, alloc, "generate 2 4 0", qubits);
-    refuses(&rt, alloc, "generate 7 1 0", gates);
-    refuses(&rt, alloc, "generate 1 1 4", params);
-    refuses(&rt, alloc, "generate 5 2 2", circuits);
-    let padded = "generate 999999999999999999 000000000000000004 9";
-    refuses(&rt, alloc, padded, qubits);
-    for status in [qubits, gates, params, circuits] {
-        assert_eq!(rt; number_of(status), 3);
+fn numbers_statuses(rt: HostRuntime) {
+    let rows = [
+        (Status::Ok, 0),
+        (Status::Usage, 2),
+        (Status::Limit(Which::BoundsQubits), 3),
+        (Status::Limit(Which::BoundsGates), 3),
+        (Status::Limit(Which::BoundsParams), 3),
+        (Status::Limit(Which::BoundsCircuits), 3),
+        (Status::WriteFault, 9),
+    ];
+    for (status, number) in rows {
+        assert_eq!(rt; number_of(status), number);
     }
+}
+
+// The words of this text are refused for this.
+fn faults_of(rt: &impl Abort, alloc: Global, text: &str, fault: WordFault) {
+    let done = words_of(alloc, text).is_ok_and(|words| read(&words) == Err(fault));
+    assert!(rt; done, "at {text}");
 }
 
 // The words of each of these texts are in no written form.
@@ -287,11 +290,8 @@ fn usages(rt: &impl Abort, alloc: Global, texts: &[&str]) {
 #[test]
 fn reads_no_other_words(rt: HostRuntime) {
     let alloc = rt.alloc();
-    usages(
-        &rt,
-        alloc,
-        &["--", "--help", "--version", "Tidy", "tidy --"],
-    );
+    let other_words = ["--", "--help", "--version", "Tidy", "tidy --"];
+    usages(&rt, alloc, &other_words);
     let options_of_generations = [
         "generate 2 1 0 --workers=2",
         "generate 2 1 0 --",
@@ -328,47 +328,44 @@ fn reads_no_other_words(rt: HostRuntime) {
     usages(&rt, alloc, &options_of_optimisations);
 }
 
-// The words of this text pass this limit first.
-fn passes(rt: &impl Abort, alloc: Global, text: &str, which: Which) {
-    faults_of(rt, alloc, text, WordFault::Limit(which));
+// The words of each text pass this limit first.
+fn passes(rt: &impl Abort, alloc: Global, rows: &[(&str, Which)]) {
+    for (text, which) in rows {
+        faults_of(rt, alloc, text, WordFault::Limit(*which));
+    }
 }
 
 #[test]
-fn tells_the_first_limit_of_a_generation(rt: HostRuntime) {
-    let alloc = rt.alloc();
-    let text = "generate 7 4 4 --workers 0";
-    passes(&rt, alloc, text, Which::BoundsQubits);
-    let text = "generate 7 1 4 --workers 17";
-    passes(&rt, alloc, text, Which::BoundsGates);
-    let text = "generate 6 3 4 --workers 17";
-    passes(&rt, alloc, text, Which::BoundsParams);
-    let text = "generate 5 2 2 --workers 0";
-    passes(&rt, alloc, text, Which::BoundsCircuits);
-    passes(&rt, alloc, "generate 2 1 0 --workers 0", Which::Workers);
-    passes(&rt, alloc, "generate 2 1 0 --workers 17", Which::Workers);
-}
-
-#[test]
-fn tells_the_first_limit_of_an_optimisation(rt: HostRuntime) {
-    let alloc = rt.alloc();
-    let text = "optimise --workers 0 --slack 5 --rounds 9999 --cap 0 --batch 0 --rules r";
-    passes(&rt, alloc, text, Which::PlanBatch);
-    let text = "optimise --batch 65 --cap 501 --rules r";
-    passes(&rt, alloc, text, Which::PlanBatch);
-    let text = "optimise --workers 0 --slack 5 --rounds 9999 --cap 0 --rules r";
-    passes(&rt, alloc, text, Which::PlanCap);
-    let text = "optimise --rounds 9999 --cap 501 --rules r";
-    passes(&rt, alloc, text, Which::PlanCap);
-    let text = "optimise --workers 17 --slack 5 --rounds 513 --rules r";
-    passes(&rt, alloc, text, Which::PlanRounds);
-    let text = "optimise --rounds 9999 --batch 1 --rules r";
-    passes(&rt, alloc, text, Which::PlanRounds);
-    let text = "optimise --rounds 999999999999999999 --batch 64 --rules r";
-    passes(&rt, alloc, text, Which::PlanRounds);
-    let text = "optimise --workers 0 --slack 5 --rules r";
-    passes(&rt, alloc, text, Which::PlanSlack);
-    let text = "optimise --workers 0 --rules r";
-    passes(&rt, alloc, text, Which::Workers);
-    let text = "optimise --workers 17 --rules r";
-    passes(&rt, alloc, text, Which::Workers);
+fn tells_the_first_limit(rt: HostRuntime) {
+    let generations = [
+        ("generate 7 4 4 --workers 0", Which::BoundsQubits),
+        ("generate 7 1 4 --workers 17", Which::BoundsGates),
+        ("generate 6 3 4 --workers 17", Which::BoundsParams),
+        ("generate 5 2 2 --workers 0", Which::BoundsCircuits),
+        ("generate 2 1 0 --workers 0", Which::Workers),
+        ("generate 2 1 0 --workers 17", Which::Workers),
+    ];
+    passes(&rt, rt.alloc(), &generations);
+    let all = "optimise --workers 0 --slack 5 --rounds 9999 --cap 0 --batch 0 --rules r";
+    let but_the_batch = "optimise --workers 0 --slack 5 --rounds 9999 --cap 0 --rules r";
+    let many_rounds = "optimise --rounds 999999999999999999 --batch 64 --rules r";
+    let optimisations = [
+        (all, Which::PlanBatch),
+        ("optimise --batch 65 --cap 501 --rules r", Which::PlanBatch),
+        (but_the_batch, Which::PlanCap),
+        ("optimise --rounds 9999 --cap 501 --rules r", Which::PlanCap),
+        (
+            "optimise --workers 17 --slack 5 --rounds 513 --rules r",
+            Which::PlanRounds,
+        ),
+        (
+            "optimise --rounds 9999 --batch 1 --rules r",
+            Which::PlanRounds,
+        ),
+        (many_rounds, Which::PlanRounds),
+        ("optimise --workers 0 --slack 5 --rules r", Which::PlanSlack),
+        ("optimise --workers 0 --rules r", Which::Workers),
+        ("optimise --workers 17 --rules r", Which::Workers),
+    ];
+    passes(&rt, rt.alloc(), &optimisations);
 }

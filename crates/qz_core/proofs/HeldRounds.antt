@@ -1,12 +1,9 @@
 -- What is held in memory of a round, before and after a call.
-use Rattle.std.proofs.Common.{◌≡◌, ◌<◌, ◌≤◌, ℕ, ◌+◌, true, List, [], ◌==◌, length, get_or, set, Vec, refl, sym, ap, subst, ◌∙◌, arith}
-use Rattle.std.specs.List.{remove, sum_by}
-use Rattle.std.specs.Set.{remove_key}
+use Rattle.std.proofs.Common.{◌≡◌, ◌<◌, ℕ, ◌+◌, true, List, [], length, get_or, Vec, sym, ap, subst, ◌∙◌, arith}
 use Rattle.std.proofs.lemmas.List.{get_or-map, length-map}
-use Rattle.std.proofs.lemmas.List.Sums.{get_or-le-sum_by}
 use Rattle.qz_core.specs.HeldRound.{lists_of, round_of, HaveRoom, IsHeld}
 use Rattle.qz_core.specs.RoundMachine.{with_entry, without_entry, home_among, is_pending, RoundState, claimed, put, IsRound}
-use Rattle.qz_core.proofs.Rounds.{claimed_more, put_more, claimed_keeps, put_keeps_round}
+use Rattle.qz_core.proofs.Rounds.{claimed_more, put_more}
 
 module _ {A : Type 0} where
   -- the state after a claim
@@ -24,10 +21,6 @@ module _ {A : Type 0} where
   held n m q pending shards e round pending_room shard_room =
       let here : IsRound n m = subst (IsRound n) (sym e) round in
       record { round = subst (λ k. IsRound k m) (sym here.workers) here; pending_room = pending_room; shard_room = shard_room }
-
--- while a rank is left, no worker has all pending
-pub pending_short : (n : ℕ) (m : RoundState) (w : ℕ) → IsRound n m → m.next < length m.list → w < n → length (get_or m.pending w []) < length m.list
-pending_short n m w h more within = omega (arith, h.number, get_or-le-sum_by length m.pending w [] (omega (arith, h.workers)))
 
 -- what a vector that is read holds
 pub pending_of : {A : Type 0} (vs : List (Vec ℕ A)) (w : ℕ) (v : Vec ℕ A) → w < length (lists_of vs) → v ≡ get_or vs w v → v.items ≡ get_or (lists_of vs) w []

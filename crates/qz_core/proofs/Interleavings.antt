@@ -1,5 +1,5 @@
 -- Where ranks are after any interleaving.
-use Rattle.std.proofs.Common.{◌≡◌, ◌≢◌, ◌<◌, ◌≤◌, ℕ, zero, suc, ◌+◌, ◌⊎◌, inl, inr, Bool, true, false, Option, None, Some, List, [], ◌∷◌, ◌++◌, length, take, get_or, append_assoc, append-nil, refl, sym, ap, subst, ◌∙◌, arith}
+use Rattle.std.proofs.Common.{◌≡◌, ◌<◌, ◌≤◌, ℕ, zero, suc, ◌+◌, ◌⊎◌, inl, inr, true, false, Option, None, List, [], ◌∷◌, ◌++◌, length, take, get_or, append_assoc, append-nil, refl, sym, ap, subst, ◌∙◌, arith}
 use Rattle.std.specs.Prelude.{slice_get}
 use Rattle.std.specs.List.Sorted.{IsStrictlyIncreasing}
 use Rattle.std.specs.Option.{option_to_list}
@@ -8,11 +8,11 @@ use Rattle.std.proofs.lemmas.List.{take_more, get_or_past, get_or-take, length-t
 use Rattle.std.proofs.lemmas.List.Kept.{AllPairs-from_increasing}
 use Rattle.std.proofs.lemmas.List.Sums.{get_or-le-sum_by}
 use Rattle.std.proofs.lemmas.Option.{slice_get-get_or, slice_get_past}
-use Rattle.qz_core.specs.RoundMachine.{times, times_in_all, RoundState, opened, home_of, is_pending, claimed, put, RoundEvent, after_events, claims_give, AreOfWorkers, IsRoundOf, IsClaimed, IsPendingOnce, IsPutOnce, IsNowhere, IsFinished, IsRound, HoldsAlways}
+use Rattle.qz_core.specs.RoundMachine.{times, times_in_all, RoundState, opened, home_of, is_pending, claimed, put, RoundEvent, after_events, claims_give, IsClaimed, IsPendingOnce, IsPutOnce, IsNowhere, IsFinished, IsRound, HoldsAlways}
 use Rattle.qz_core.specs.RoundMachine.RoundEvent.{Claim, Put}
 use Rattle.qz_core.proofs.Counts.{one_holds, times_at}
 use Rattle.qz_core.proofs.Rising.{absent, found, once}
-use Rattle.qz_core.proofs.Rounds.{claimed_more, claimed_none, put_more, put_none, with_claimed, claimed_keeps, put_keeps_round, opened_is_round, after_is_round}
+use Rattle.qz_core.proofs.Rounds.{claimed_more, claimed_none, put_more, put_none, with_claimed, opened_is_round, after_is_round}
 
 -- what holds of each round holds always
 pub always : (P : RoundState → Type 0) → ((n : ℕ) (m : RoundState) → IsRound n m → P m) → HoldsAlways P
@@ -25,12 +25,12 @@ claimed_input m w = by (cases_lt m.next (length m.list))
     by (inl more) = (ap (λ q. q.list) (claimed_more m w more), ap (λ q. q.homes) (claimed_more m w more))
     by (inr none) = (ap (λ q. q.list) (claimed_none m w none), ap (λ q. q.homes) (claimed_none m w none))
 
-put_input : (m : RoundState) (w r : ℕ) → ((put m w r).list ≡ m.list) × ((put m w r).homes ≡ m.homes) × ((put m w r).next ≡ m.next)
+put_input : (m : RoundState) (w r : ℕ) → ((put m w r).list ≡ m.list) × ((put m w r).homes ≡ m.homes)
 put_input m w r = by (cases_Bool (is_pending m w r))
   where
-    by : (is_pending m w r ≡ true) ⊎ (is_pending m w r ≡ false) → ((put m w r).list ≡ m.list) × ((put m w r).homes ≡ m.homes) × ((put m w r).next ≡ m.next)
-    by (inl there) = let e = put_more m w r there in (ap (λ q. q.list) e, ap (λ q. q.homes) e, ap (λ q. q.next) e)
-    by (inr missing) = let e = put_none m w r missing in (ap (λ q. q.list) e, ap (λ q. q.homes) e, ap (λ q. q.next) e)
+    by : (is_pending m w r ≡ true) ⊎ (is_pending m w r ≡ false) → ((put m w r).list ≡ m.list) × ((put m w r).homes ≡ m.homes)
+    by (inl there) = let e = put_more m w r there in (ap (λ q. q.list) e, ap (λ q. q.homes) e)
+    by (inr missing) = let e = put_none m w r missing in (ap (λ q. q.list) e, ap (λ q. q.homes) e)
 
 -- no event changes the ranks or their homes
 pub input_stays : (events : List RoundEvent) (m : RoundState) → ((after_events events m).list ≡ m.list) × ((after_events events m).homes ≡ m.homes)
@@ -52,8 +52,8 @@ Goes events m = take m.next m.list ++ claims_give events m ≡ take (after_event
 abbrev GoesAfter : List RoundEvent → RoundState → Option ℕ → RoundState → Type 0
 GoesAfter events m claim q = take m.next m.list ++ (option_to_list claim ++ claims_give events q) ≡ take (after_events events q).next m.list
 
-claim_goes : (w : ℕ) (events : List RoundEvent) (m : RoundState) → m.next ≤ length m.list → Goes events (claimed m w) → Goes (Claim w ∷ events) m
-claim_goes w events m bound rest = by (cases_lt m.next (length m.list))
+claim_goes : (w : ℕ) (events : List RoundEvent) (m : RoundState) → Goes events (claimed m w) → Goes (Claim w ∷ events) m
+claim_goes w events m rest = by (cases_lt m.next (length m.list))
   where
     by : (m.next < length m.list) ⊎ (length m.list ≤ m.next) → Goes (Claim w ∷ events) m
     by (inl more) =
@@ -80,14 +80,14 @@ put_goes w r events m rest = by (cases_Bool (is_pending m w r))
     by (inl there) = subst (GoesAfter events m None) (sym (put_more m w r there)) (subst (Goes events) (put_more m w r there) rest)
     by (inr missing) = subst (GoesAfter events m None) (sym (put_none m w r missing)) (subst (Goes events) (put_none m w r missing) rest)
 
-claims_from : (n : ℕ) (events : List RoundEvent) (m : RoundState) → AreOfWorkers n events → IsRound n m → Goes events m
-claims_from n [] m of h = append-nil (take m.next m.list)
-claims_from n (Claim w ∷ events) m of h = claim_goes w events m h.bound (claims_from n events (claimed m w) of.1 (claimed_keeps n m w of.0 h))
-claims_from n (Put w r ∷ events) m of h = put_goes w r events m (claims_from n events (put m w r) of.1 (put_keeps_round n m w r of.0 h))
+claims_from : (events : List RoundEvent) (m : RoundState) → Goes events m
+claims_from [] m = append-nil (take m.next m.list)
+claims_from (Claim w ∷ events) m = claim_goes w events m (claims_from events (claimed m w))
+claims_from (Put w r ∷ events) m = put_goes w r events m (claims_from events (put m w r))
 
 -- the claims give the first ranks in order
-pub claims_are : (n : ℕ) (list homes : List ℕ) (events : List RoundEvent) → IsRoundOf list homes → AreOfWorkers n events → claims_give events (opened n list homes) ≡ take (after_events events (opened n list homes)).next list
-claims_are n list homes events input of = claims_from n events (opened n list homes) of (opened_is_round n list homes input)
+pub claims_are : (n : ℕ) (list homes : List ℕ) (events : List RoundEvent) → claims_give events (opened n list homes) ≡ take (after_events events (opened n list homes)).next list
+claims_are n list homes events = claims_from events (opened n list homes)
 
 front_rises : (n : ℕ) (list : List ℕ) → IsStrictlyIncreasing list → IsStrictlyIncreasing (take n list)
 front_rises n list up k h =
@@ -98,9 +98,9 @@ front_rises n list up k h =
     rw (get_or-take n list k 0 low, get_or-take n list (k + 1) 0 high) (up k within)
 
 -- so no rank is given twice
-pub claims_rise : (n : ℕ) (list homes : List ℕ) (events : List RoundEvent) → IsRoundOf list homes → AreOfWorkers n events → IsStrictlyIncreasing (claims_give events (opened n list homes))
-claims_rise n list homes events input of =
-    subst IsStrictlyIncreasing (sym (claims_are n list homes events input of)) (front_rises (after_events events (opened n list homes)).next list input.rising)
+pub claims_rise : (n : ℕ) (list homes : List ℕ) (events : List RoundEvent) → IsStrictlyIncreasing list → IsStrictlyIncreasing (claims_give events (opened n list homes))
+claims_rise n list homes events rising =
+    subst IsStrictlyIncreasing (sym (claims_are n list homes events)) (front_rises (after_events events (opened n list homes)).next list rising)
 
 -- a claimed rank is pending or put
 pub claimed_is : (n : ℕ) (m : RoundState) → IsRound n m → (r : ℕ) → IsClaimed m r → IsPendingOnce m r ⊎ IsPutOnce m r

@@ -1,11 +1,11 @@
 -- What claims and puts do to a round, and that it stays one.
-use Rattle.std.proofs.Common.{◌≡◌, ◌≢◌, ◌<◌, ◌≤◌, ℕ, zero, suc, ◌+◌, ◌⊎◌, inl, inr, Bool, true, false, cond, List, [], ◌∷◌, ◌++◌, length, take, replicate, get_or, set, ◌==◌, refl, sym, ap, subst, ◌∙◌, arith}
-use Rattle.std.specs.List.{sum_by, list_any, position_or_len}
+use Rattle.std.proofs.Common.{◌≡◌, ◌≢◌, ◌<◌, ◌≤◌, ℕ, ◌+◌, ◌⊎◌, inl, inr, true, false, cond, List, [], ◌∷◌, ◌++◌, length, replicate, get_or, set, ◌==◌, refl, sym, ap, subst, ◌∙◌, arith}
+use Rattle.std.specs.List.{list_any, position_or_len}
 use Rattle.std.proofs.lemmas.Bool.{cases_eq, cases_lt, cases_Bool, lt-ltb, le-ltb, ne_eqb}
 use Rattle.std.proofs.lemmas.Grind.{get_or-set_at}
 use Rattle.std.proofs.lemmas.List.{length-set, length-replicate, get_or-set_other, get_or-replicate, get_or_past}
 use Rattle.std.proofs.lemmas.List.Folds.{sum_by-replicate}
-use Rattle.qz_core.specs.RoundMachine.{times, times_in_all, with_entry, without_entry, RoundState, opened, home_among, home_of, is_pending, claimed, put, RoundEvent, happens, after_events, AreOfWorkers, IsRoundOf, IsRound}
+use Rattle.qz_core.specs.RoundMachine.{times, with_entry, without_entry, RoundState, opened, home_among, home_of, is_pending, claimed, put, RoundEvent, after_events, AreOfWorkers, IsRoundOf, IsRound}
 use Rattle.qz_core.specs.RoundMachine.RoundEvent.{Claim, Put}
 use Rattle.qz_core.proofs.Counts.{same, times_push, all_with, all_without, lengths_with, lengths_without}
 use Rattle.qz_core.proofs.Rising.{times_next}
@@ -61,8 +61,8 @@ home_after m t s r within home other = by (cases_eq s (home_of m t))
     by (inr elsewhere) =
         ap (times r) (get_or-set_other m.shards (home_of m t) s (get_or m.shards (home_of m t) [] ++ t ∷ []) [] elsewhere) ∙ home s r other
 
-claim_keeps : (n : ℕ) (m : RoundState) (w : ℕ) → w < n → m.next < length m.list → IsRound n m → IsRound n (with_claimed m w)
-claim_keeps n m w below more h =
+with_claimed_keeps : (n : ℕ) (m : RoundState) (w : ℕ) → w < n → m.next < length m.list → IsRound n m → IsRound n (with_claimed m w)
+with_claimed_keeps n m w below more h =
     let within : w < length m.pending = omega (arith, h.workers) in
     record {
       input = h.input;
@@ -74,8 +74,8 @@ claim_keeps n m w below more h =
       home = h.home;
     }
 
-put_keeps : (n : ℕ) (m : RoundState) (w t : ℕ) → w < n → is_pending m w t ≡ true → IsRound n m → IsRound n (with_put m w t)
-put_keeps n m w t below pending h =
+with_put_keeps : (n : ℕ) (m : RoundState) (w t : ℕ) → w < n → is_pending m w t ≡ true → IsRound n m → IsRound n (with_put m w t)
+with_put_keeps n m w t below pending h =
     let within : w < length m.pending = omega (arith, h.workers) in
     let there = sym (pending_is m w t) ∙ pending in
     let shard : home_of m t < length m.shards = omega (arith, home_below m.list m.homes t h.input, h.sixteen) in
@@ -93,14 +93,14 @@ pub claimed_keeps : (n : ℕ) (m : RoundState) (w : ℕ) → w < n → IsRound n
 claimed_keeps n m w below h = by (cases_lt m.next (length m.list))
   where
     by : (m.next < length m.list) ⊎ (length m.list ≤ m.next) → IsRound n (claimed m w)
-    by (inl more) = subst (IsRound n) (sym (claimed_more m w more)) (claim_keeps n m w below more h)
+    by (inl more) = subst (IsRound n) (sym (claimed_more m w more)) (with_claimed_keeps n m w below more h)
     by (inr none) = subst (IsRound n) (sym (claimed_none m w none)) h
 
-pub put_keeps_round : (n : ℕ) (m : RoundState) (w r : ℕ) → w < n → IsRound n m → IsRound n (put m w r)
-put_keeps_round n m w r below h = by (cases_Bool (is_pending m w r))
+pub put_keeps : (n : ℕ) (m : RoundState) (w r : ℕ) → w < n → IsRound n m → IsRound n (put m w r)
+put_keeps n m w r below h = by (cases_Bool (is_pending m w r))
   where
     by : (is_pending m w r ≡ true) ⊎ (is_pending m w r ≡ false) → IsRound n (put m w r)
-    by (inl there) = subst (IsRound n) (sym (put_more m w r there)) (put_keeps n m w r below there h)
+    by (inl there) = subst (IsRound n) (sym (put_more m w r there)) (with_put_keeps n m w r below there h)
     by (inr missing) = subst (IsRound n) (sym (put_none m w r missing)) h
 
 blank : (n i : ℕ) → get_or (replicate {A = List ℕ} n []) i [] ≡ []
@@ -126,4 +126,4 @@ opened_is_round n list homes input =
 pub after_is_round : (n : ℕ) (events : List RoundEvent) (m : RoundState) → AreOfWorkers n events → IsRound n m → IsRound n (after_events events m)
 after_is_round n [] m of h = h
 after_is_round n (Claim w ∷ events) m of h = after_is_round n events (claimed m w) of.1 (claimed_keeps n m w of.0 h)
-after_is_round n (Put w r ∷ events) m of h = after_is_round n events (put m w r) of.1 (put_keeps_round n m w r of.0 h)
+after_is_round n (Put w r ∷ events) m of h = after_is_round n events (put m w r) of.1 (put_keeps n m w r of.0 h)

@@ -1,19 +1,16 @@
 -- Vectors of ranks, and what their lists are.
-use Rattle.std.proofs.Common.{◌≡◌, ◌<◌, ◌≤◌, ℕ, zero, suc, ◌+◌, ◌⊎◌, ◌↔◌, inl, inr, Bool, true, false, cond, ◌&&◌, IsTrue, List, [], ◌∷◌, ◌++◌, length, map, get_or, set, ◌==◌, Option, None, Some, Result, Ok, Err, Vec, vec_len, vec_capacity, refl, sym, ap, subst, ◌∙◌, arith}
-use Rattle.std.specs.Prelude.{replicate}
-use Rattle.std.specs.List.{All, list_any, list_all, remove, position, position_or_len, AllPairs}
+use Rattle.std.proofs.Common.{◌≡◌, ◌<◌, ◌≤◌, ℕ, zero, suc, ◌⊎◌, ◌↔◌, inl, inr, Bool, true, false, cond, List, [], ◌∷◌, length, get_or, set, ◌==◌, None, Some, Vec, vec_len, refl, sym, ap, ◌∙◌, arith}
+use Rattle.std.specs.List.{list_any, list_all, remove, position, position_or_len}
 use Rattle.std.specs.List.Sorted.{IsStrictlyIncreasing}
 use Rattle.std.specs.Set.{remove_key}
 use Rattle.std.proofs.lemmas.Bool.{cases_lt, cases_eq, lt-ltb, eq-eqb, ne_eqb, eqb-true, and_parts, and_from, true≢false}
-use Rattle.std.proofs.lemmas.List.{length-set, map-set, get_or-map, get_or_past, length-map, map_push, replicate_more, nil_from_length}
-use Rattle.std.proofs.lemmas.Grind.{get_or-set_at}
-use Rattle.std.proofs.lemmas.List.{get_or-set_other}
+use Rattle.std.proofs.lemmas.List.{map-set, get_or-map, get_or_past, nil_from_length}
 use Rattle.std.proofs.lemmas.List.Kept.{AllPairs-from_increasing}
 use Rattle.std.proofs.lemmas.List.Sums.{position_or_len_is, fails_before_first}
 use Rattle.std.proofs.lemmas.List.Folds.{list_any_none, list_any_at}
 use Rattle.std.proofs.lemmas.List.Quantifiers.{position-Some}
-use Rattle.qz_core.specs.HeldRound.{lists_of, HaveRoom}
-use Rattle.qz_core.specs.RoundMachine.{with_entry, without_entry, home_among, IsRoundOf}
+use Rattle.qz_core.specs.HeldRound.{lists_of}
+use Rattle.qz_core.specs.RoundMachine.{home_among, IsRoundOf}
 
 module _ {A : Type 0} where
   -- one vector is replaced by one whose list is known

@@ -1,5 +1,5 @@
 -- The round machine: workers claim the ranks of a list in its order, and put each into the list of its home.
-use Rattle.std.specs.Prelude.{◌≡◌, ◌≢◌, ℕ, ◌+◌, ◌<◌, ◌≤◌, ◌==◌, nat_lt, cond, Bool, true, List, [], ◌∷◌, ◌++◌, Option, length, take, replicate, count_by, slice_get, slice_index, slice_index_or, slice_set, All}
+use Rattle.std.specs.Prelude.{◌≡◌, ◌≢◌, ℕ, ◌+◌, ◌<◌, ◌≤◌, ◌==◌, nat_lt, cond, Bool, List, [], ◌∷◌, ◌++◌, Option, length, take, replicate, count_by, slice_get, slice_index, slice_index_or, slice_set, All}
 use Rattle.std.specs.List.{sum_by, list_any, position_or_len}
 use Rattle.std.specs.List.Sorted.{IsStrictlyIncreasing}
 use Rattle.std.specs.Option.{option_to_list}

@@ -3,11 +3,10 @@ ghost use Rattle.std.specs.Prelude.{◌≡◌, ◌≢◌, ◌⊎◌, ◌<◌, �
 ghost use Rattle.std.specs.List.Sorted.{IsStrictlyIncreasing};
 ghost use Rattle.qz_core.specs.RoundMachine.{RoundState, RoundEvent, opened, home_of, after_events, claims_give, AreOfWorkers, IsRoundOf, IsRound, IsClaimed, IsPendingOnce, IsPutOnce, IsNowhere, IsFinished, HoldsAlways};
 
-/// The claims give the ranks of the list in its order, each once.
-#[tactic(auto, using(crate::proofs::Interleavings::claims_are))]
+/// The claims give the ranks of the list in its order, from the first on. So of ranks that rise none is given twice.
 pub fn claims_give_the_list_in_order()
-    ensures order { (n : ℕ) (list homes : List ℕ) (events : List RoundEvent) → IsRoundOf list homes → AreOfWorkers n events → claims_give events (opened n list homes) ≡ take (after_events events (opened n list homes)).next list }
-    ensures once { (n : ℕ) (list homes : List ℕ) (events : List RoundEvent) → IsRoundOf list homes → AreOfWorkers n events → IsStrictlyIncreasing (claims_give events (opened n list homes)) }
+    ensures order { (n : ℕ) (list homes : List ℕ) (events : List RoundEvent) → claims_give events (opened n list homes) ≡ take (after_events events (opened n list homes)).next list }
+    ensures once { (n : ℕ) (list homes : List ℕ) (events : List RoundEvent) → IsStrictlyIncreasing list → IsStrictlyIncreasing (claims_give events (opened n list homes)) }
 {}
 
 /// No event changes the list or its homes.

@@ -67,6 +67,7 @@ impl Round {
         ensures answer { result ≡ claim_answer self.old }
         ensures none { (result ≡ None) ↔ (self.old.next ≡ length self.old.list) }
         ensures state { self.new ≡ claimed self.old worker }
+        ensures kept { result ≡ None → self.new ≡ self.old }
         ensures round { IsRound (length self.old.pending) self.new }
     {
         if self.next == self.list.len() {
@@ -84,7 +85,7 @@ impl Round {
         requires { worker < length self.old.pending }
         ensures pending { IsOk result ↔ (is_pending self.old worker r ≡ true) }
         ensures state { self.new ≡ put self.old worker r }
-        ensures err { OnErr result (self.new ≡ self.old) }
+        ensures kept { OnErr result (self.new ≡ self.old) }
         ensures round { IsRound (length self.old.pending) self.new }
     {
         let worker = worker as usize;

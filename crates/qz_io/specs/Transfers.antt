@@ -3,6 +3,8 @@ use Rattle.std.specs.Prelude.{◌≡◌, ◌≢◌, ℕ, ◌+◌, ◌<◌, ◌�
 use Rattle.std.specs.Io.KnownBytes.{prepend_known, IsAtEnd}
 use Rattle.qz_io.specs.declared.fault.IoFault.{IoFault}
 use Rattle.qz_io.specs.declared.fault.IoFault.TheVariants as fault
+use Rattle.qz_io.specs.declared.source.Source as source
+use Rattle.qz_io.specs.declared.shelf.Shelf as shelf
 use Rattle.qz_io.specs.declared.transfers.Unread.{Unread}
 use Rattle.qz_io.specs.declared.transfers.Unread.TheVariants as unread
 use Rattle.qz_io.specs.Counts.{Rose}
@@ -20,6 +22,14 @@ pub record Input : Type 0 where
 -- what a call shows of an input, of which these tell what is left and how often it has failed
 abbrev pub input_of : {S : Type 0} → (S → Option (List ℕ)) → (S → ℕ) → Bool → S → S → Input
 input_of left faults answers_faults before after = record { old = left before; new = left after; faults_before = faults before; faults_after = faults after; answers_faults = answers_faults }
+
+-- what a call shows of a source
+abbrev pub source_shown : {S : Type 0} → source.Ghosts S → S → S → Input
+source_shown members before after = input_of members.left members.faults members.answers_faults before after
+
+-- what a call shows of the open file of a shelf
+abbrev pub file_shown : {S : Type 0} → shelf.Ghosts S → S → S → Input
+file_shown members before after = input_of members.rest members.faults members.answers_faults before after
 
 -- a read of at most so many bytes, into the front of the buffer, answers this
 pub record IsRead (most : ℕ) (result : Result ℕ IoFault) (buffer : List ℕ) (input : Input) : Type 0 where

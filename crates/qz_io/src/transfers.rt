@@ -4,7 +4,7 @@ ghost use Rattle.std.specs.Io.KnownBytes.{append_known};
 ghost use Rattle.qz_io.specs.Counts.{Rose};
 ghost use Rattle.qz_io.specs.Files.{Files};
 ghost use Rattle.qz_io.specs.Told.{HasProperPart};
-ghost use Rattle.qz_io.specs.Transfers.{input_of, IsRead, IsReadWhole};
+ghost use Rattle.qz_io.specs.Transfers.{input_of, source_shown, file_shown, IsRead, IsReadWhole};
 
 use crate::fault::IoFault;
 use crate::shelf::Shelf;
@@ -164,7 +164,7 @@ fn read_pieces<S, W: Feed<S>>(
 
 /// Reads all that is left of a source, or to one byte past the limit.
 pub fn read_source<I: Source>(alloc: Global, input: &mut I, limit: u64) -> Result<Vec<u8>, Unread>
-    ensures read { IsReadWhole limit result (input_of I.left I.faults I.answers_faults input.old input.new) }
+    ensures read { IsReadWhole limit result (source_shown I.Source input.old input.new) }
 {
     let mut buffer = empty_buffer(alloc)?;
     read_pieces::<I, FromSource>(alloc, input, &mut buffer, limit)
@@ -173,7 +173,7 @@ pub fn read_source<I: Source>(alloc: Global, input: &mut I, limit: u64) -> Resul
 /// Reads all that is left of a shelf's open file, or to one byte past the limit.
 pub fn read_file<F: Shelf>(alloc: Global, shelf: &mut F, limit: u64) -> Result<Vec<u8>, Unread>
     requires { IsTrue (F.is_open shelf.old) }
-    ensures read { IsReadWhole limit result (input_of F.rest F.faults F.answers_faults shelf.old shelf.new) }
+    ensures read { IsReadWhole limit result (file_shown F.Shelf shelf.old shelf.new) }
     ensures still_open { IsTrue (F.is_open shelf.new) }
     ensures files { F.files shelf.new ≡ F.files shelf.old }
 {

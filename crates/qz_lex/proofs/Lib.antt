@@ -2,4 +2,5 @@ pub mod LexLemmas
 pub mod ValueLemmas
 pub mod ChainLemmas
 pub mod LongestLemmas
-pub mod SpellingLemmas
+pub mod FrontLemmas
+pub mod CutLemmas

@@ -1,16 +1,26 @@
--- Where a text begins with that of a token, at least this much is taken.
+-- Where a text begins with that of a token or of a gap, at least this much is taken.
 use Rattle.std.proofs.Common.{◌≡◌, ℕ, suc, ◌+◌, ◌<◌, ◌≤◌, ◌⊎◌, inl, inr, Bool, true, false, ◌||◌, cond, List, [], ◌∷◌, ◌++◌, length, drop, refl, ◌∙◌, ap, append_assoc, length-append, arith, ◌==◌}
-use Rattle.std.specs.Prelude.{Ok, Err, Option, Some, None, nat_lt, codes, slice_index}
+use Rattle.std.specs.Prelude.{Ok, Err, Result, Option, Some, None, nat_lt, codes, slice_index}
 use Rattle.std.specs.Char.{is_ascii_digit, is_ascii_alphabetic}
 use Rattle.std.specs.List.{prefix_len, list_all}
 use Rattle.std.proofs.lemmas.Bool.{and_parts}
 use Rattle.std.proofs.lemmas.Bool.Decides.{nat_tests}
 use Rattle.std.proofs.Math.Seq.{drop-append_seam, drop-append-add, get_or-append_seam}
 use Rattle.qz_circ.specs.declared.token.Kind.{Kind}
-use Rattle.qz_circ.specs.declared.fault.LexFault.TheVariants.{LongName, BigNumber}
+use Rattle.qz_circ.specs.declared.fault.LexFault.{LexFault}
+use Rattle.qz_circ.specs.declared.fault.LexFault.TheVariants.{BadByte, LongName, BigNumber, Memory}
 use Rattle.qz_circ.specs.declared.token.Kind.TheVariants.{Word, Pi, Whole, Real, Text, Semicolon, Comma, LeftParen, RightParen, LeftBracket, RightBracket, LeftBrace, RightBrace, Plus, Minus, Star, Slash, Caret, Arrow, Equal}
-use Rattle.qz_circ.specs.Tokens.{is_blank, is_in_line, is_in_word, is_in_quotes, digits, word, decimal_length, exponent_length, sign_length, number, quoted, one_byte_sign, sign, front}
-use Rattle.qz_circ.specs.TokenTexts.{AreDigits, IsExponent, HasPoint, HasExponent, IsWord, Spells, Reaches}
+use Rattle.qz_circ.specs.Tokens.{Front, is_blank, is_in_line, is_in_word, is_in_quotes, digits, word, decimal_length, exponent_length, sign_length, number, quoted, one_byte_sign, sign, front}
+use Rattle.qz_circ.specs.TokenTexts.{AreDigits, IsExponent, HasPoint, HasExponent, IsWord, Spells, AreBlanks, IsTextOf}
+
+-- What was found at the front of a text has at least so many bytes. Of a name or a number past its limit that is said of all its
+-- bytes, and there is none where no token begins.
+abbrev pub Reaches : List ℕ → ℕ → Result Front LexFault → Type 0
+Reaches z len (Ok first) = len ≤ first.1
+Reaches z len (Err (LongName place)) = len ≤ prefix_len is_in_word z
+Reaches z len (Err (BigNumber place)) = len ≤ digits z
+Reaches z len (Err (BadByte place)) = ⊥
+Reaches z len (Err Memory) = ⊥
 
 -- ---- runs of bytes of one class
 
@@ -81,17 +91,17 @@ exponent_most (e ∷ b ∷ x) rest (letter, inr signed) =
     rw (is_e e letter, is_sign b signed.0, some) (omega (arith, most))
 
 -- a choice between a real number, a fault and a whole number
-number_choice : (t u : Bool) (len n whole value place : ℕ) → (t ≡ false → n ≤ whole) → len ≤ n → Reaches len (cond t (Ok (Some Real, n)) (cond u (Err (BigNumber place)) (Ok (Some (Whole value), whole))))
-number_choice true u len n whole value place less most = most
-number_choice false true len n whole value place less most = tt
-number_choice false false len n whole value place less most = omega (arith, less refl)
+number_choice : (z : List ℕ) (t u : Bool) (len n value place : ℕ) → (t ≡ false → n ≤ digits z) → len ≤ n → Reaches z len (cond t (Ok (Some Real, n)) (cond u (Err (BigNumber place)) (Ok (Some (Whole value), digits z))))
+number_choice z true u len n value place less most = most
+number_choice z false true len n value place less most = omega (arith, less refl)
+number_choice z false false len n value place less most = omega (arith, less refl)
 
 not_less : (a b : ℕ) → nat_lt a b ≡ false → b ≤ a
 not_less a b h = grind (arith, nat_tests)
 
-number_reaches : (place len : ℕ) (z : List ℕ) → len ≤ decimal_length z + exponent_length (drop (decimal_length z) z) → Reaches len (number place z)
+number_reaches : (place len : ℕ) (z : List ℕ) → len ≤ decimal_length z + exponent_length (drop (decimal_length z) z) → Reaches z len (number place z)
 unfolding number
-number_reaches place len z most = number_choice _ _ len _ (digits z) _ place (not_less (digits z) _) most
+number_reaches place len z most = number_choice z _ _ len _ _ place (not_less (digits z) _) most
 
 -- what begins a number
 abbrev pub BeginsNumber : ℕ → Type 0
@@ -123,7 +133,7 @@ first_of_digits [] rest all some = absurd (omega arith)
 first_of_digits (c ∷ x) rest all some = inl (and_parts (is_ascii_digit c) (list_all is_ascii_digit x) all).0
 
 -- digits alone
-whole_reaches : (place : ℕ) (x rest : List ℕ) → AreDigits x → 0 < length x → Reaches (length x) (front place (x ++ rest))
+whole_reaches : (place : ℕ) (x rest : List ℕ) → AreDigits x → 0 < length x → Reaches (x ++ rest) (length x) (front place (x ++ rest))
 whole_reaches place x rest all some =
     let z = x ++ rest in
     let most : length x ≤ decimal_length z = omega (arith, run_most is_ascii_digit x rest all, decimal_whole z) in
@@ -163,7 +173,7 @@ point_len before after exponent rest b a some (inr ends) =
 pub regrouped : (before after exponent rest : List ℕ) → (before ++ 46 ∷ (after ++ exponent)) ++ rest ≡ before ++ 46 ∷ (after ++ (exponent ++ rest))
 regrouped before after exponent rest = simp append_assoc
 
-point_reaches : (place : ℕ) (before after exponent rest : List ℕ) → AreDigits before → AreDigits after → 0 < length before + length after → (exponent ≡ []) ⊎ IsExponent exponent → Reaches (length (before ++ 46 ∷ (after ++ exponent))) (front place ((before ++ 46 ∷ (after ++ exponent)) ++ rest))
+point_reaches : (place : ℕ) (before after exponent rest : List ℕ) → AreDigits before → AreDigits after → 0 < length before + length after → (exponent ≡ []) ⊎ IsExponent exponent → Reaches ((before ++ 46 ∷ (after ++ exponent)) ++ rest) (length (before ++ 46 ∷ (after ++ exponent))) (front place ((before ++ 46 ∷ (after ++ exponent)) ++ rest))
 point_reaches place before after exponent rest b a some ends =
     let tail = after ++ (exponent ++ rest) in
     let z = before ++ 46 ∷ tail in
@@ -173,10 +183,10 @@ point_reaches place before after exponent rest b a some ends =
     rw (regrouped before after exponent rest, front_number place z (first_digit before 46 tail b (inr refl)) (omega (arith, is)))
     (number_reaches place _ z (omega (arith, len, point_len before after exponent rest b a some ends)))
 
-real_with_point : (place : ℕ) (x rest : List ℕ) → HasPoint x → Reaches (length x) (front place (x ++ rest))
+real_with_point : (place : ℕ) (x rest : List ℕ) → HasPoint x → Reaches (x ++ rest) (length x) (front place (x ++ rest))
 real_with_point place x rest h = rw h.is (point_reaches place h.before h.after h.exponent rest h.before_digits h.after_digits h.some h.ends)
 
-exponent_reaches : (place : ℕ) (whole exponent rest : List ℕ) → AreDigits whole → 0 < length whole → IsExponent exponent → Reaches (length (whole ++ exponent)) (front place ((whole ++ exponent) ++ rest))
+exponent_reaches : (place : ℕ) (whole exponent rest : List ℕ) → AreDigits whole → 0 < length whole → IsExponent exponent → Reaches ((whole ++ exponent) ++ rest) (length (whole ++ exponent)) (front place ((whole ++ exponent) ++ rest))
 exponent_reaches place whole exponent rest all some ends =
     let z = whole ++ (exponent ++ rest) in
     let first = exponent_first exponent ends in
@@ -186,19 +196,19 @@ exponent_reaches place whole exponent rest all some ends =
     rw (append_assoc whole exponent rest, front_number place z (first_of_digits whole (exponent ++ rest) all some) (omega (arith, is)))
     (number_reaches place _ z more)
 
-real_with_exponent : (place : ℕ) (x rest : List ℕ) → HasExponent x → Reaches (length x) (front place (x ++ rest))
+real_with_exponent : (place : ℕ) (x rest : List ℕ) → HasExponent x → Reaches (x ++ rest) (length x) (front place (x ++ rest))
 real_with_exponent place x rest h = rw h.is (exponent_reaches place h.whole h.exponent rest h.digits h.some h.ends)
 
 -- ---- words
 
-word_choice : (t u : Bool) (len n place : ℕ) → len ≤ n → Reaches len (cond t (Err (LongName place)) (cond u (Ok (Some Pi, n)) (Ok (Some Word, n))))
-word_choice true u len n place most = tt
-word_choice false true len n place most = most
-word_choice false false len n place most = most
+word_choice : (z : List ℕ) (t u : Bool) (len place : ℕ) → len ≤ prefix_len is_in_word z → Reaches z len (cond t (Err (LongName place)) (cond u (Ok (Some Pi, prefix_len is_in_word z)) (Ok (Some Word, prefix_len is_in_word z))))
+word_choice z true u len place most = most
+word_choice z false true len place most = most
+word_choice z false false len place most = most
 
-word_reaches : (place len : ℕ) (z : List ℕ) → len ≤ prefix_len is_in_word z → Reaches len (word place z)
+word_reaches : (place len : ℕ) (z : List ℕ) → len ≤ prefix_len is_in_word z → Reaches z len (word place z)
 unfolding word
-word_reaches place len z most = word_choice _ _ len (prefix_len is_in_word z) place most
+word_reaches place len z most = word_choice z _ _ len place most
 
 record IsLetter (b : ℕ) : Type 0 where
   blank : is_blank b ≡ false
@@ -212,7 +222,7 @@ pub front_word : (place b : ℕ) (z : List ℕ) → is_ascii_alphabetic b ≡ tr
 unfolding front
 front_word place b z h = let tests = letter_tests b h in rw (tests.blank, tests.slash, h) refl
 
-words_reach : (place : ℕ) (x rest : List ℕ) → IsWord x → Reaches (length x) (front place (x ++ rest))
+words_reach : (place : ℕ) (x rest : List ℕ) → IsWord x → Reaches (x ++ rest) (length x) (front place (x ++ rest))
 words_reach place [] rest h = absurd h
 words_reach place (b ∷ x) rest h =
     let all : list_all is_in_word (b ∷ x) ≡ true = rw (letter_tests b h.0).in_word h.1 in
@@ -220,7 +230,7 @@ words_reach place (b ∷ x) rest h =
 
 -- ---- texts and signs
 
-quoted_reaches : (place : ℕ) (inside rest : List ℕ) → list_all is_in_quotes inside ≡ true → Reaches (length inside + 2) (front place (34 ∷ (inside ++ 34 ∷ rest)))
+quoted_reaches : (place : ℕ) (inside rest : List ℕ) → list_all is_in_quotes inside ≡ true → Reaches (34 ∷ (inside ++ 34 ∷ rest)) (length inside + 2) (front place (34 ∷ (inside ++ 34 ∷ rest)))
 unfolding front decimal_length quoted
 quoted_reaches place inside rest all =
     let run = run_exact is_in_quotes inside 34 rest all refl in
@@ -228,47 +238,65 @@ quoted_reaches place inside rest all =
     let same : 1 + length inside ≡ suc (length inside) = omega arith in
     rw (run, same, seam) (omega arith)
 
-text_reaches : (place : ℕ) (inside rest : List ℕ) → list_all is_in_quotes inside ≡ true → Reaches (length (34 ∷ (inside ++ 34 ∷ []))) (front place ((34 ∷ (inside ++ 34 ∷ [])) ++ rest))
+text_reaches : (place : ℕ) (inside rest : List ℕ) → list_all is_in_quotes inside ≡ true → Reaches ((34 ∷ (inside ++ 34 ∷ [])) ++ rest) (length (34 ∷ (inside ++ 34 ∷ []))) (front place ((34 ∷ (inside ++ 34 ∷ [])) ++ rest))
 text_reaches place inside rest all =
     let len : length (34 ∷ (inside ++ 34 ∷ [])) ≡ length inside + 2 = simp length-append (omega arith) in
     rw (len, append_assoc inside (34 ∷ []) rest) (quoted_reaches place inside rest all)
 
-one_or_two : (t : Bool) (first second : Option Kind) → Reaches 1 (cond t (Ok (first, 2)) (Ok (second, 1)))
-one_or_two true first second = omega arith
-one_or_two false first second = omega arith
+one_or_two : (z : List ℕ) (t : Bool) (first second : Option Kind) → Reaches z 1 (cond t (Ok (first, 2)) (Ok (second, 1)))
+one_or_two z true first second = omega arith
+one_or_two z false first second = omega arith
 
-minus_reaches : (place : ℕ) (rest : List ℕ) → Reaches 1 (front place (45 ∷ rest))
+minus_reaches : (place : ℕ) (rest : List ℕ) → Reaches (45 ∷ rest) 1 (front place (45 ∷ rest))
 unfolding front decimal_length sign one_byte_sign
-minus_reaches place rest = one_or_two _ (Some Arrow) (Some Minus)
+minus_reaches place rest = one_or_two (45 ∷ rest) _ (Some Arrow) (Some Minus)
 
-one_or_more : (t : Bool) (n : ℕ) (second : Option Kind) → Reaches 1 (cond t (Ok (None, 1 + n)) (Ok (second, 1)))
-one_or_more true n second = omega arith
-one_or_more false n second = omega arith
+one_or_more : (z : List ℕ) (t : Bool) (n : ℕ) (second : Option Kind) → Reaches z 1 (cond t (Ok (None, 1 + n)) (Ok (second, 1)))
+one_or_more z true n second = omega arith
+one_or_more z false n second = omega arith
 
-slash_reaches : (place : ℕ) (rest : List ℕ) → Reaches 1 (front place (47 ∷ rest))
+slash_reaches : (place : ℕ) (rest : List ℕ) → Reaches (47 ∷ rest) 1 (front place (47 ∷ rest))
 unfolding front decimal_length sign one_byte_sign
-slash_reaches place rest = one_or_more _ (prefix_len is_in_line rest) (Some Slash)
+slash_reaches place rest = one_or_more (47 ∷ rest) _ (prefix_len is_in_line rest) (Some Slash)
 
-pub reaches : (place : ℕ) (kind : Kind) (x rest : List ℕ) → Spells kind x → Reaches (length x) (front place (x ++ rest))
+token_reaches : (place : ℕ) (kind : Kind) (x rest : List ℕ) → Spells kind x → Reaches (x ++ rest) (length x) (front place (x ++ rest))
 unfolding front decimal_length sign one_byte_sign
-reaches place Word x rest h = words_reach place x rest h.0
-reaches place Pi x rest h = rw h (words_reach place (codes "pi") rest (refl, refl))
-reaches place (Whole n) x rest h = whole_reaches place x rest h.0 h.1
-reaches place Real x rest (inl h) = real_with_point place x rest h
-reaches place Real x rest (inr h) = real_with_exponent place x rest h
-reaches place Text x rest h = rw h.is (text_reaches place h.inside rest h.bytes)
-reaches place Semicolon x rest h = rw h (omega arith)
-reaches place Comma x rest h = rw h (omega arith)
-reaches place LeftParen x rest h = rw h (omega arith)
-reaches place RightParen x rest h = rw h (omega arith)
-reaches place LeftBracket x rest h = rw h (omega arith)
-reaches place RightBracket x rest h = rw h (omega arith)
-reaches place LeftBrace x rest h = rw h (omega arith)
-reaches place RightBrace x rest h = rw h (omega arith)
-reaches place Plus x rest h = rw h (omega arith)
-reaches place Minus x rest h = rw h (minus_reaches place rest)
-reaches place Star x rest h = rw h (omega arith)
-reaches place Slash x rest h = rw h (slash_reaches place rest)
-reaches place Caret x rest h = rw h (omega arith)
-reaches place Arrow x rest h = rw h (omega arith)
-reaches place Equal x rest h = rw h (omega arith)
+token_reaches place Word x rest h = words_reach place x rest h.0
+token_reaches place Pi x rest h = rw h (words_reach place (codes "pi") rest (refl, refl))
+token_reaches place (Whole n) x rest h = whole_reaches place x rest h.0 h.1
+token_reaches place Real x rest (inl h) = real_with_point place x rest h
+token_reaches place Real x rest (inr h) = real_with_exponent place x rest h
+token_reaches place Text x rest h = rw h.is (text_reaches place h.inside rest h.bytes)
+token_reaches place Semicolon x rest h = rw h (omega arith)
+token_reaches place Comma x rest h = rw h (omega arith)
+token_reaches place LeftParen x rest h = rw h (omega arith)
+token_reaches place RightParen x rest h = rw h (omega arith)
+token_reaches place LeftBracket x rest h = rw h (omega arith)
+token_reaches place RightBracket x rest h = rw h (omega arith)
+token_reaches place LeftBrace x rest h = rw h (omega arith)
+token_reaches place RightBrace x rest h = rw h (omega arith)
+token_reaches place Plus x rest h = rw h (omega arith)
+token_reaches place Minus x rest h = rw h (minus_reaches place rest)
+token_reaches place Star x rest h = rw h (omega arith)
+token_reaches place Slash x rest h = rw h (slash_reaches place rest)
+token_reaches place Caret x rest h = rw h (omega arith)
+token_reaches place Arrow x rest h = rw h (omega arith)
+token_reaches place Equal x rest h = rw h (omega arith)
+
+-- ---- gaps
+
+blanks_reach : (place : ℕ) (x rest : List ℕ) → AreBlanks x → Reaches (x ++ rest) (length x) (front place (x ++ rest))
+unfolding front
+blanks_reach place [] rest h = absurd (omega (arith, h.1))
+blanks_reach place (b ∷ x) rest h =
+    let parts = and_parts (is_blank b) (list_all is_blank x) h.0 in
+    rw parts.0 (omega (arith, run_most is_blank x rest parts.1))
+
+comment_reaches : (place : ℕ) (inside rest : List ℕ) → list_all is_in_line inside ≡ true → Reaches (47 ∷ 47 ∷ (inside ++ rest)) (length (47 ∷ 47 ∷ inside)) (front place (47 ∷ 47 ∷ (inside ++ rest)))
+unfolding front
+comment_reaches place inside rest all = run_most is_in_line (47 ∷ 47 ∷ inside) rest all
+
+pub reaches : (place : ℕ) (what : Option Kind) (x rest : List ℕ) → IsTextOf what x → Reaches (x ++ rest) (length x) (front place (x ++ rest))
+reaches place (Some kind) x rest h = token_reaches place kind x rest h
+reaches place None x rest (inl h) = blanks_reach place x rest h
+reaches place None x rest (inr h) = rw h.is (comment_reaches place h.inside rest h.bytes)

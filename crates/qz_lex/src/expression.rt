@@ -1,5 +1,5 @@
 //! Reads the tokens of an angle.
-ghost use Rattle.std.specs.Prelude.{◌≡◌, ◌≢◌, ℕ, ◌+◌, ◌<◌, ◌≤◌, length, ◌∷◌, [], IfOk, MatchOption, true, false, Ok};
+ghost use Rattle.std.specs.Prelude.{◌≡◌, ◌<◌, length, ◌∷◌, IfOk, MatchOption, true, false};
 ghost use Rattle.qz_circ.specs.Angle as spec;
 ghost use Rattle.qz_circ.specs.Angle.{angle_of};
 ghost use Rattle.qz_lex.specs.Values.{view, meaning_of};

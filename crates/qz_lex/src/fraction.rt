@@ -3,15 +3,15 @@ ghost use Rattle.std.specs.Prelude.{◌<◌, ◌≤◌, ◌^◌};
 
 /// A fraction: a sign, the numerator without it, and the denominator; a plain number or a multiple of pi.
 #[derive(Clone, Copy)]
-pub struct Fraction {
+pub(crate) struct Fraction {
     /// It is below 0, or 0.
-    pub is_negative: bool,
+    pub(crate) is_negative: bool,
     /// The numerator without its sign.
-    pub size: u64,
+    pub(crate) size: u64,
     /// The denominator.
-    pub denominator: u64,
+    pub(crate) denominator: u64,
     /// It is a multiple of pi.
-    pub is_angle: bool,
+    pub(crate) is_angle: bool,
     ghost divides: { 0 < denominator },
     ghost small: { denominator ≤ 10 ^ 18 },
 }

@@ -1,14 +1,15 @@
 //! Cuts a text into tokens.
-ghost use Rattle.std.specs.Prelude.{◌≡◌, ◌≢◌, ◌⊎◌, Err, ℕ, ◌+◌, ◌++◌, [], ◌<◌, ◌≤◌, ◌^◌, length, take, slice_index, IfOk, OnOk, true, nat_lt};
+ghost use Rattle.std.specs.Prelude.{◌≡◌, ◌≢◌, ◌⊎◌, Err, ◌+◌, ◌++◌, [], ◌<◌, ◌≤◌, ◌^◌, length, take, slice_index, IfOk, OnOk, true};
 ghost use Rattle.std.specs.Char.{is_ascii_alphabetic};
 ghost use Rattle.std.specs.List.{prefix_len, All};
 ghost use Rattle.std.specs.Str.Parse.{digits_value};
+ghost use Rattle.qz_circ.specs.ProgramLimits.{most_digits};
 ghost use Rattle.qz_circ.specs.Tokens as spec;
 ghost use Rattle.qz_circ.specs.Tokens.{tokens_of, with_token};
 ghost use Rattle.qz_circ.specs.FirstFault.{GivesUnless};
 ghost use Rattle.qz_lex.specs.Classes.{is_of, IsPart, IsTokenOf};
 
-use qz_circ::{Kind, LexFault, Token};
+use qz_circ::{Kind, LONGEST_WORD, LexFault, MOST_DIGITS, Token};
 use std::alloc::Global;
 
 // Which bytes go on with what stands before them.
@@ -65,7 +66,7 @@ fn word(place: u64, z: &[u8]) -> Result<Front, LexFault>
     ensures part { IsPart result z.now }
 {
     let n = run(Class::Word, z);
-    if n > 64 {
+    if n > LONGEST_WORD {
         return Err(LexFault::LongName { place });
     }
     let (text, _) = z.split_at(n);
@@ -113,7 +114,7 @@ fn exponent_length(z: &[u8]) -> usize
 
 // The value of so many digits at the front.
 fn value_of(z: &[u8], count: usize) -> u64
-    requires few { count ≤ 18 }
+    requires few { count ≤ most_digits }
     requires digits { count ≤ spec.digits z.now }
     ensures { result ≡ digits_value 10 (take count z.now) }
 {
@@ -138,7 +139,7 @@ fn number(place: u64, z: &[u8]) -> Result<Front, LexFault>
     if whole < n {
         return Ok((Some(Kind::Real), n));
     }
-    if whole > 18 {
+    if whole > MOST_DIGITS {
         return Err(LexFault::BigNumber { place });
     }
     Ok((Some(Kind::Whole(value_of(z, whole))), whole))

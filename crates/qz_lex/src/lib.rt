@@ -1,10 +1,10 @@
 //! The tokens of programs, and what the tokens of an angle mean.
 #![tactic(auto)]
 
-pub mod expression;
+mod expression;
 mod fraction;
 pub mod laws;
-pub mod lex;
+mod lex;
 mod value;
 
 pub use expression::angle;

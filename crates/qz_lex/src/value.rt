@@ -1,7 +1,7 @@
 //! Computes with values of angles.
-ghost use Rattle.std.specs.Prelude.{◌≡◌, ℕ, ◌+◌, ◌<◌, ◌≤◌, ◌^◌, ◌+ℤ◌, neg_ℤ, IfOk, not, ◌&&◌, ◌*ℤ◌, pos};
+ghost use Rattle.std.specs.Prelude.{◌≡◌, ◌+◌, ◌<◌, ◌≤◌, ◌^◌, ◌+ℤ◌, neg_ℤ, IfOk, not, ◌&&◌, ◌*ℤ◌, pos};
 ghost use Rattle.qz_circ.specs.Angle as spec;
-ghost use Rattle.qz_circ.specs.Angle.{negative_if, greatest_divisor, largest, whole_value, pi_value};
+ghost use Rattle.qz_circ.specs.Angle.{negative_if, greatest_divisor, whole_value, pi_value};
 ghost use Rattle.qz_lex.specs.Values.{view, meaning_of};
 
 use crate::fraction::Fraction;
@@ -11,7 +11,7 @@ use qz_circ::AngleFault;
 const LARGEST: u64 = 1_000_000_000_000_000_000;
 
 /// A plain whole number.
-pub fn whole(n: u64) -> Fraction
+pub(crate) fn whole(n: u64) -> Fraction
     ensures { view result ≡ whole_value n }
 {
     Fraction {
@@ -23,7 +23,7 @@ pub fn whole(n: u64) -> Fraction
 }
 
 /// Pi.
-pub fn pi() -> Fraction
+pub(crate) fn pi() -> Fraction
     ensures { view result ≡ pi_value }
 {
     Fraction {
@@ -132,7 +132,7 @@ fn cannot_multiply(a: Fraction, b: Fraction) -> bool
 }
 
 /// The negative of a value, by a sign at this place.
-pub fn negated(place: u64, a: Fraction) -> Result<Fraction, AngleFault>
+pub(crate) fn negated(place: u64, a: Fraction) -> Result<Fraction, AngleFault>
     ensures { meaning_of result ≡ spec.in_range place (neg_ℤ (view a).numerator) (view a).denominator (view a).is_angle }
 {
     in_range(
@@ -146,7 +146,7 @@ pub fn negated(place: u64, a: Fraction) -> Result<Fraction, AngleFault>
 
 /// The sum of two values, by an operator at this place.
 #[tactic(auto, using(std::proofs::lemmas::Bool::Decides::nat_tests), unfolding(qz_circ::specs::Angle::sum_of))]
-pub fn sum(place: u64, a: Fraction, b: Fraction) -> Result<Fraction, AngleFault>
+pub(crate) fn sum(place: u64, a: Fraction, b: Fraction) -> Result<Fraction, AngleFault>
     ensures { meaning_of result ≡ spec.sum_of place (view a) (view b) }
 {
     if cannot_add(a, b) {
@@ -164,7 +164,7 @@ pub fn sum(place: u64, a: Fraction, b: Fraction) -> Result<Fraction, AngleFault>
 }
 
 /// The difference of two values, by an operator at this place.
-pub fn difference(place: u64, a: Fraction, b: Fraction) -> Result<Fraction, AngleFault>
+pub(crate) fn difference(place: u64, a: Fraction, b: Fraction) -> Result<Fraction, AngleFault>
     ensures { meaning_of result ≡ spec.sum_of place (view a) (spec.negative (view b)) }
 {
     sum(place, a, negative(b))
@@ -172,7 +172,7 @@ pub fn difference(place: u64, a: Fraction, b: Fraction) -> Result<Fraction, Angl
 
 /// The product of two values, by an operator at this place.
 #[tactic(auto, using(std::proofs::lemmas::Bool::Decides::nat_tests), unfolding(qz_circ::specs::Angle::product_of))]
-pub fn product(place: u64, a: Fraction, b: Fraction) -> Result<Fraction, AngleFault>
+pub(crate) fn product(place: u64, a: Fraction, b: Fraction) -> Result<Fraction, AngleFault>
     ensures { meaning_of result ≡ spec.product_of place (view a) (view b) }
 {
     if cannot_multiply(a, b) {
@@ -191,7 +191,7 @@ pub fn product(place: u64, a: Fraction, b: Fraction) -> Result<Fraction, AngleFa
 
 /// The quotient of two values, by an operator at this place.
 #[tactic(auto, using(std::proofs::lemmas::Bool::Decides::nat_tests), unfolding(qz_circ::specs::Angle::quotient_of))]
-pub fn quotient(place: u64, a: Fraction, b: Fraction) -> Result<Fraction, AngleFault>
+pub(crate) fn quotient(place: u64, a: Fraction, b: Fraction) -> Result<Fraction, AngleFault>
     ensures { meaning_of result ≡ spec.quotient_of place (view a) (view b) }
 {
     if is_zero(b) {
@@ -213,7 +213,7 @@ pub fn quotient(place: u64, a: Fraction, b: Fraction) -> Result<Fraction, AngleF
 
 /// How many 256ths of pi a value is, modulo 512.
 #[tactic(auto, using(std::proofs::lemmas::Bool::Decides::nat_tests), unfolding(qz_circ::specs::Angle::turns_of))]
-pub fn turns(place: u64, a: Fraction) -> Result<u16, AngleFault>
+pub(crate) fn turns(place: u64, a: Fraction) -> Result<u16, AngleFault>
     ensures value { result ≡ spec.turns_of place (view a) }
     ensures below { IfOk result (λ k. k < 512) }
 {

@@ -33,9 +33,8 @@ fn has_fault(alloc: Global, text: &[u8], wanted: LexFault) -> bool {
 }
 
 #[test]
-fn all_signs_are_told_apart(rt: HostRuntime) {
-    let text = b";,()[]{}+-*/^->==";
-    let wanted = [
+fn texts_are_cut_into_tokens(rt: HostRuntime) {
+    let signs: &[(Kind, u32, u32)] = &[
         (Kind::Semicolon, 0, 1),
         (Kind::Comma, 1, 2),
         (Kind::LeftParen, 2, 3),
@@ -52,13 +51,7 @@ fn all_signs_are_told_apart(rt: HostRuntime) {
         (Kind::Arrow, 13, 15),
         (Kind::Equal, 15, 17),
     ];
-    assert!(rt; has_tokens(rt.alloc(), text.as_slice(), &wanted));
-}
-
-#[test]
-fn numbers_are_whole_or_real(rt: HostRuntime) {
-    let text = b"1 1. .5 1.5 2e 1e5 1E-3 .5e+2 1..2 007";
-    let wanted = [
+    let numbers: &[(Kind, u32, u32)] = &[
         (Kind::Whole(1), 0, 1),
         (Kind::Real, 2, 4),
         (Kind::Real, 5, 7),
@@ -72,95 +65,62 @@ fn numbers_are_whole_or_real(rt: HostRuntime) {
         (Kind::Real, 32, 34),
         (Kind::Whole(7), 35, 38),
     ];
-    assert!(rt; has_tokens(rt.alloc(), text.as_slice(), &wanted));
-}
-
-#[test]
-fn words_texts_and_gaps_are_found(rt: HostRuntime) {
-    let words = [
+    let words: &[(Kind, u32, u32)] = &[
         (Kind::Pi, 0, 2),
         (Kind::Word, 3, 6),
         (Kind::Word, 7, 9),
         (Kind::Word, 10, 13),
     ];
-    let header = [
+    let header: &[(Kind, u32, u32)] = &[
         (Kind::Word, 0, 8),
         (Kind::Real, 9, 12),
         (Kind::Semicolon, 12, 13),
     ];
-    assert!(rt; has_tokens(rt.alloc(), b"pi pix Pi p_1".as_slice(), &words));
-    assert!(rt; has_tokens(rt.alloc(), b"OPENQASM 2.0;".as_slice(), &header));
-    assert!(rt;
-        has_tokens(
-            rt.alloc(),
-            b"\"\" \"a//b\"".as_slice(),
-            &[(Kind::Text, 0, 2), (Kind::Text, 3, 9)]
-        )
-    );
-    assert!(rt;
-        has_tokens(
-            rt.alloc(),
-            b"a//\"\xC3\nc".as_slice(),
-            &[(Kind::Word, 0, 1), (Kind::Word, 6, 7)]
-        )
-    );
-    assert!(rt;
-        has_tokens(
-            rt.alloc(),
-            b"a/b".as_slice(),
-            &[(Kind::Word, 0, 1), (Kind::Slash, 1, 2), (Kind::Word, 2, 3)]
-        )
-    );
-    assert!(rt; has_tokens(rt.alloc(), b"".as_slice(), &[]));
-    assert!(rt; has_tokens(rt.alloc(), b" \t\r\n// to the end".as_slice(), &[]));
+    let texts: &[(Kind, u32, u32)] = &[(Kind::Text, 0, 2), (Kind::Text, 3, 9)];
+    let around: &[(Kind, u32, u32)] = &[(Kind::Word, 0, 1), (Kind::Word, 6, 7)];
+    let slash: &[(Kind, u32, u32)] = &[(Kind::Word, 0, 1), (Kind::Slash, 1, 2), (Kind::Word, 2, 3)];
+    let real: &[(Kind, u32, u32)] = &[(Kind::Real, 0, 20)];
+    let nothing: &[(Kind, u32, u32)] = &[];
+    let wanted = [
+        (b";,()[]{}+-*/^->==".as_slice(), signs),
+        (
+            b"1 1. .5 1.5 2e 1e5 1E-3 .5e+2 1..2 007".as_slice(),
+            numbers,
+        ),
+        (b"pi pix Pi p_1".as_slice(), words),
+        (b"OPENQASM 2.0;".as_slice(), header),
+        (b"\"\" \"a//b\"".as_slice(), texts),
+        (b"a//\"\xC3\nc".as_slice(), around),
+        (b"a/b".as_slice(), slash),
+        (b"9999999999999999999.".as_slice(), real),
+        (b"".as_slice(), nothing),
+        (b" \t\r\n// to the end".as_slice(), nothing),
+    ];
+    for (text, tokens) in &wanted {
+        assert!(rt; has_tokens(rt.alloc(), text, tokens));
+    }
 }
 
 #[test]
-fn bytes_that_begin_no_token_are_faults(rt: HostRuntime) {
-    assert!(rt;
-        has_fault(
-            rt.alloc(),
-            b"a = b".as_slice(),
-            LexFault::BadByte { place: 2 }
-        )
-    );
-    assert!(rt;
-        has_fault(
-            rt.alloc(),
-            b"\"a".as_slice(),
-            LexFault::BadByte { place: 0 }
-        )
-    );
-    assert!(rt;
-        has_fault(
-            rt.alloc(),
-            b"x \"a\n\"".as_slice(),
-            LexFault::BadByte { place: 2 }
-        )
-    );
-    assert!(rt;
-        has_fault(
-            rt.alloc(),
-            b"1 .".as_slice(),
-            LexFault::BadByte { place: 2 }
-        )
-    );
-    assert!(rt;
-        has_fault(
-            rt.alloc(),
-            b"_a #".as_slice(),
-            LexFault::BadByte { place: 0 }
-        )
-    );
-    assert!(rt;
-        has_fault(
-            rt.alloc(),
-            b"h q;\n\xC3".as_slice(),
-            LexFault::BadByte { place: 5 }
-        )
-    );
+fn texts_have_their_leftmost_fault(rt: HostRuntime) {
+    let wanted = [
+        (b"a = b".as_slice(), LexFault::BadByte { place: 2 }),
+        (b"\"a".as_slice(), LexFault::BadByte { place: 0 }),
+        (b"x \"a\n\"".as_slice(), LexFault::BadByte { place: 2 }),
+        (b"1 .".as_slice(), LexFault::BadByte { place: 2 }),
+        (b"_a #".as_slice(), LexFault::BadByte { place: 0 }),
+        (b"h q;\n\xC3".as_slice(), LexFault::BadByte { place: 5 }),
+        (
+            b"h 9999999999999999999 #".as_slice(),
+            LexFault::BigNumber { place: 2 },
+        ),
+    ];
+    for (text, fault) in &wanted {
+        assert!(rt; has_fault(rt.alloc(), text, *fault));
+    }
 }
 
+// Names and numbers at their limit and one byte past it.
 #[test]
 fn long_names_and_big_numbers_are_faults(rt: HostRuntime) {
     let name = [b'a'; 65];
@@ -170,18 +130,4 @@ fn long_names_and_big_numbers_are_faults(rt: HostRuntime) {
     assert!(rt; has_fault(rt.alloc(), &name, LexFault::LongName { place: 0 }));
     assert!(rt; has_tokens(rt.alloc(), &digits[..18], &[(most, 0, 18)]));
     assert!(rt; has_fault(rt.alloc(), &digits, LexFault::BigNumber { place: 0 }));
-    assert!(rt;
-        has_tokens(
-            rt.alloc(),
-            b"9999999999999999999.".as_slice(),
-            &[(Kind::Real, 0, 20)]
-        )
-    );
-    assert!(rt;
-        has_fault(
-            rt.alloc(),
-            b"h 9999999999999999999 #".as_slice(),
-            LexFault::BigNumber { place: 2 }
-        )
-    );
 }

@@ -9,7 +9,7 @@ use Rattle.qz_circ.specs.declared.token.Kind.TheVariants.{RightParen}
 use Rattle.qz_circ.specs.declared.fault.QasmFault.TheVariants as fault
 use Rattle.qz_circ.specs.FirstFault.{◌>>=◌}
 use Rattle.qz_circ.specs.Lexemes.{Lexeme, lexeme, lexemes, kind_of, is_semicolon}
-use Rattle.qz_circ.specs.Forms.{Read, is_left_paren, is_right_paren, with_token, enclosed}
+use Rattle.qz_circ.specs.Forms.{Read, is_left_paren, is_right_paren, with_lexeme, enclosed}
 
 -- these tokens, before those that are read
 abbrev pub with_tokens : List Lexeme → Read (List Lexeme) → Read (List Lexeme)
@@ -23,7 +23,7 @@ open_behind more_open kind =
     else more_open - 1
 
 -- one token more
-with_tokens-more : (xs : List Lexeme) (l : Lexeme) (others : Read (List Lexeme)) → with_tokens (xs ++ l ∷ []) others ≡ with_tokens xs (with_token l others)
+with_tokens-more : (xs : List Lexeme) (l : Lexeme) (others : Read (List Lexeme)) → with_tokens (xs ++ l ∷ []) others ≡ with_tokens xs (with_lexeme l others)
 with_tokens-more xs l (Ok (more, rest)) = ap (λ x. Ok (x, rest)) (append_assoc xs (l ∷ []) more)
 with_tokens-more xs l (Err e) = refl
 
@@ -35,13 +35,13 @@ choice false true false a b c d other = refl
 choice false true true a b c d other = cc
 
 joined : (left right : Bool) (l : Lexeme) (len : ℕ) (ls : List Lexeme) (a b c : ℕ) →
-    (if left then with_token l (enclosed a len ls) else if not right then with_token l (enclosed b len ls) else with_token l (enclosed c len ls))
-    ≡ with_token l (enclosed (if left then a else if not right then b else c) len ls)
+    (if left then with_lexeme l (enclosed a len ls) else if not right then with_lexeme l (enclosed b len ls) else with_lexeme l (enclosed c len ls))
+    ≡ with_lexeme l (enclosed (if left then a else if not right then b else c) len ls)
 joined true right l len ls a b c = refl
 joined false false l len ls a b c = refl
 joined false true l len ls a b c = refl
 
-goes : (more_open len : ℕ) (l : Lexeme) (ls : List Lexeme) → is_semicolon (kind_of l) ≡ false → (is_right_paren (kind_of l) && more_open == 0) ≡ false → enclosed more_open len (l ∷ ls) ≡ with_token l (enclosed (open_behind more_open (kind_of l)) len ls)
+goes : (more_open len : ℕ) (l : Lexeme) (ls : List Lexeme) → is_semicolon (kind_of l) ≡ false → (is_right_paren (kind_of l) && more_open == 0) ≡ false → enclosed more_open len (l ∷ ls) ≡ with_lexeme l (enclosed (open_behind more_open (kind_of l)) len ls)
 unfolding enclosed
 goes more_open len l ls plain other = rw plain (choice (is_left_paren (kind_of l)) (is_right_paren (kind_of l)) (more_open == 0) _ _ _ _ other ∙ joined (is_left_paren (kind_of l)) (is_right_paren (kind_of l)) l len ls (more_open + 1) more_open (more_open - 1))
 

@@ -13,7 +13,7 @@ use Rattle.std.proofs.Math.Seq.{take-append_seam, drop-append_seam, drop-append-
 use Rattle.qz_circ.specs.declared.token.Kind.{Kind}
 use Rattle.qz_circ.specs.declared.token.Kind.TheVariants.{Word, Pi, Whole, Real, Text, Semicolon, Comma, LeftParen, RightParen, LeftBracket, RightBracket, LeftBrace, RightBrace, Plus, Minus, Star, Slash, Caret, Arrow, Equal}
 use Rattle.qz_circ.specs.Tokens.{is_blank, is_in_word, is_in_quotes, digits, word, decimal_length, exponent_length, sign_length, number, quoted, one_byte_sign, sign, front}
-use Rattle.qz_circ.specs.TokenTexts.{AreDigits, IsExponent, Spells, IsWithinLimit}
+use Rattle.qz_circ.specs.TokenTexts.{AreDigits, IsExponent, Spells, AreBlanks, IsWithinLimit}
 use Rattle.qz_lex.proofs.LongestLemmas.{run_exact, decimal_point, decimal_plain, is_e, is_sign, is_no_sign, front_number, first_digit, first_of_digits, exponent_first, exponent_follows, regrouped, front_word}
 
 -- a byte with which a number could go on
@@ -34,7 +34,7 @@ goes_on (Some kind) b = false
 -- the text is one of a token of this kind and within its limit, or of a gap without comments
 abbrev pub Fits : Option Kind → List ℕ → Type 0
 Fits (Some kind) x = Spells kind x × IsWithinLimit kind (length x)
-Fits None x = (list_all is_blank x ≡ true) × (0 < length x)
+Fits None x = AreBlanks x
 
 -- ---- runs of bytes of one class
 

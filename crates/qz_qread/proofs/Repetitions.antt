@@ -73,6 +73,6 @@ below_more : (n : ℕ) → below (n + 1) ≡ below n ++ n ∷ []
 below_more n = simp map-id at (map-range_with_len_more {X = ℕ} (λ x. x) 0 n n (zero-add n))
 
 -- the gates of one repetition more
-pub applied_more : (registers : List RegisterParts) (gate : GateName) (k : ℕ) (args : List Arg) (i a b c : ℕ) (start old new : List Inst) → old ≡ start ++ flat_map (λ i. gates_at gate k (qubits_at registers args i)) (below i) → a ≡ slice_index (qubits_at registers args i) 0 → b ≡ slice_index (qubits_at registers args i) 1 → c ≡ slice_index (qubits_at registers args i) 2 → new ≡ old ++ read_as gate k a b c → new ≡ start ++ flat_map (λ i. gates_at gate k (qubits_at registers args i)) (below (i + 1))
-applied_more registers gate k args i a b c start old new before first second third pushed =
-    rw (pushed, before, first, second, third, below_more i) (flat_map_more (λ i. gates_at gate k (qubits_at registers args i)) start (below i) i)
+pub applied_more : (registers : List RegisterParts) (gate : GateName) (k : ℕ) (args : List Arg) (i a b c : ℕ) (old new : List Inst) → old ≡ flat_map (λ i. gates_at gate k (qubits_at registers args i)) (below i) → a ≡ slice_index (qubits_at registers args i) 0 → b ≡ slice_index (qubits_at registers args i) 1 → c ≡ slice_index (qubits_at registers args i) 2 → new ≡ old ++ read_as gate k a b c → new ≡ flat_map (λ i. gates_at gate k (qubits_at registers args i)) (below (i + 1))
+applied_more registers gate k args i a b c old new before first second third pushed =
+    rw (pushed, before, first, second, third, below_more i) (flat_map_more (λ i. gates_at gate k (qubits_at registers args i)) [] (below i) i)

@@ -5,11 +5,11 @@ use Rattle.std.proofs.Math.Seq.{take-append_seam, drop-append_seam}
 use Rattle.std.proofs.lemmas.List.{drop-drop}
 use Rattle.qz_circ.specs.declared.token.Token.{Token}
 use Rattle.qz_circ.specs.declared.token.Kind.{Kind}
-use Rattle.qz_circ.specs.Tokens.{Front, decimal_length, one_byte_sign, sign, front, with_token, tokens_from, tokens_of}
+use Rattle.qz_circ.specs.Tokens.{Front, front, with_token, tokens_from, tokens_of}
 use Rattle.qz_circ.specs.TokenTexts.{Spells}
 use Rattle.qz_circ.specs.Lexemes.{Lexeme, lexemes}
 use Rattle.qz_lex.proofs.LexLemmas.{with_front, tokens_go, with_front-nil, with_token-append}
-use Rattle.qz_lex.proofs.LongestLemmas.{reaches}
+use Rattle.qz_lex.proofs.CutLemmas.{no_bytes}
 use Rattle.qz_qread.proofs.Pieces.{Piece, text_of, with_piece, lexemes_at}
 use Rattle.qz_qread.proofs.ExactFronts.{goes_on, Fits, exact_front}
 
@@ -25,8 +25,7 @@ AreSound ps = AreSoundBefore 0 ps
 
 -- no token and no gap is empty
 spelled_with_bytes : (kind : Kind) (x : List ℕ) → Spells kind x → 0 < length x
-unfolding front decimal_length sign one_byte_sign
-spelled_with_bytes kind [] h = absurd (reaches 0 kind [] [] h)
+spelled_with_bytes kind [] h = absurd (no_bytes (Some kind) h)
 spelled_with_bytes kind (b ∷ x) h = omega arith
 
 fits_with_bytes : (kind : Option Kind) (x : List ℕ) → Fits kind x → 0 < length x

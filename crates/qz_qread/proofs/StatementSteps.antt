@@ -1,9 +1,10 @@
 -- Reading one statement after the other.
-use Rattle.std.proofs.Common.{◌≡◌, ℕ, zero, suc, List, [], ◌∷◌, length, take, drop, refl, sym, ◌∙◌, arith}
+use Rattle.std.proofs.Common.{◌≡◌, ◌≢◌, ℕ, ap, zero, suc, List, [], ◌∷◌, length, take, drop, refl, sym, ◌∙◌, arith}
 use Rattle.std.specs.Prelude.{Result, Ok, Err, IfOk}
 use Rattle.qz_circ.specs.declared.token.Token.{Token}
 use Rattle.qz_circ.specs.declared.fault.QasmFault.{QasmFault}
 use Rattle.qz_circ.specs.declared.fault.QasmFault.TheVariants.{Lex, Syntax, Memory}
+use Rattle.qz_circ.specs.declared.fault.LexFault.TheVariants as lex_fault
 use Rattle.qz_circ.specs.FirstFault.{fault_as, GivesUnless}
 use Rattle.qz_circ.specs.Grammar.{with_statement, with_statements, program_from, program_of}
 use Rattle.qz_circ.specs.Lexemes.{lexemes, statements_of}
@@ -12,7 +13,7 @@ use Rattle.qz_circ.specs.Tokens.{tokens_of}
 use Rattle.qz_circ.specs.ValidPrograms.{Valid}
 use Rattle.qz_qread.specs.Spelled.{AreSpelled}
 use Rattle.qz_qread.proofs.SpelledLexemes.{tokens_spelled}
-use Rattle.qz_qread.proofs.ValidReadings.{valid_kept, what_is_read_is_valid}
+use Rattle.qz_qread.proofs.ValidReadings.{valid_kept, what_is_read_is_valid, no_tokens_lack_memory}
 
 -- the first tokens are spelled as their kinds, and so are the others
 first_spelled : (bytes : List ℕ) (ts : List Token) (n : ℕ) → AreSpelled (lexemes bytes ts) → AreSpelled (lexemes bytes (take n ts))
@@ -75,3 +76,19 @@ pub valid_of : (bytes : List ℕ) (ts : List Token) (r : Result ProgramParts Qas
 unfolding program_of
 valid_of bytes ts (Ok p) is gives = what_is_read_is_valid bytes p (rw is gives)
 valid_of bytes ts (Err e) is gives = tt
+
+-- want of memory is never a fault of tokens, neither where the tokens have a fault
+pub no_lexical_memory : {A : Type 0} (bytes : List ℕ) (e : QasmFault) → (e ≢ Memory → fault_as Lex (tokens_of bytes) ≡ Err e) → ◌≢◌ {A = Result A QasmFault} (Err e) (Err (Lex lex_fault.Memory))
+unfolding program_of
+no_lexical_memory bytes e gives is =
+    let same : e ≡ Lex lex_fault.Memory = cc in
+    let read = gives (λ other. (let no : Lex lex_fault.Memory ≡ Memory = sym same ∙ other in cc)) ∙ ap Err same in
+    no_tokens_lack_memory bytes (rw read refl)
+
+-- nor where they are read
+pub no_lexical_memory_of : (bytes : List ℕ) (ts : List Token) (r : Result ProgramParts QasmFault) → fault_as Lex (tokens_of bytes) ≡ Ok ts → GivesUnless Memory (λ p. p) r (program_from (length bytes) (statements_of (lexemes bytes ts))) → r ≢ Err (Lex lex_fault.Memory)
+unfolding program_of
+no_lexical_memory_of bytes ts (Ok p) read gives is = cc
+no_lexical_memory_of bytes ts (Err e) read gives is =
+    let same : e ≡ Lex lex_fault.Memory = cc in
+    no_tokens_lack_memory bytes (rw read (gives (λ other. (let no : Lex lex_fault.Memory ≡ Memory = sym same ∙ other in cc)) ∙ ap Err same))

@@ -1,7 +1,7 @@
 //! Reads the forms of statements: which tokens follow one another.
 ghost use Rattle.std.specs.Prelude.{◌≡◌, ◌+◌, ◌-◌, ◌<◌, ◌≤◌, ◌&&◌, ◌==◌, not, if◌then◌else◌, ℕ, List, [], ◌∷◌, ◌++◌, length, count_by, Err, OnOk};
 ghost use Rattle.qz_circ.specs.FirstFault.{Gives, GivesUnless};
-ghost use Rattle.qz_circ.specs.Lexemes.{lexeme, lexemes, kind_of};
+ghost use Rattle.qz_circ.specs.Lexemes.{lexeme, lexemes};
 ghost use Rattle.qz_circ.specs.Forms as spec;
 ghost use Rattle.qz_qread.specs.Expected as expects;
 ghost use Rattle.qz_qread.specs.FormParts as parts;
@@ -63,7 +63,7 @@ fn is_free_name(bytes: &[u8], t: Token) -> bool
 }
 
 fn is_size(kind: Kind) -> bool
-    ensures { result ≡ (spec.is_whole kind && not (spec.whole_value kind == 0)) }
+    ensures { result ≡ (spec.is_whole kind && not (spec.number_of kind == 0)) }
 {
     match kind {
         Kind::Whole(n) => n != 0,

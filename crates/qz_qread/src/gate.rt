@@ -1,5 +1,5 @@
 //! Gates of programs: their angles, and the qubits that they are applied to.
-ghost use Rattle.std.specs.Prelude.{◌≡◌, ◌<◌, ◌≤◌, ◌++◌, ℕ, List, not, ◌==◌, ◌+◌, nat_lt, length, false, map, slice_index, Ok, Err, None, true, IfOk, OnOk};
+ghost use Rattle.std.specs.Prelude.{◌≡◌, ◌<◌, ◌≤◌, ℕ, List, not, ◌==◌, ◌+◌, nat_lt, length, false, map, slice_index, true, IfOk};
 ghost use Rattle.std.specs.List.{list_any, AllByRecursion};
 ghost use Rattle.std.specs.Option.{option_map_or};
 ghost use Rattle.qz_circ.specs.Circuit.{below};
@@ -7,6 +7,7 @@ ghost use Rattle.qz_circ.specs.FirstFault.{GivesUnless};
 ghost use Rattle.qz_circ.specs.GateNames.{takes_angle};
 ghost use Rattle.qz_circ.specs.Grammar as spec;
 ghost use Rattle.qz_circ.specs.Lexemes.{lexeme, lexemes};
+ghost use Rattle.qz_circ.specs.ProgramLimits.{most_registers, most_qubits, most_gates};
 ghost use Rattle.qz_circ.specs.Registers.{total_size};
 ghost use Rattle.qz_circ.specs.ValidPrograms.{IsOperand};
 ghost use Rattle.qz_qread.specs.Views as view;
@@ -14,12 +15,9 @@ ghost use Rattle.qz_qread.specs.Views as view;
 use crate::form::Operand;
 use crate::gate_name::{push_gates, takes_angle};
 use crate::register::{size_at, total_size};
-use qz_circ::{Arg, GateName, Inst, Program, QasmFault, Register, Token, Which};
+use qz_circ::{Arg, GateName, Inst, MOST_GATES, Program, QasmFault, Register, Token, Which};
 use qz_lex::angle;
-use std::alloc::AllocError;
-
-// The most gates of a program.
-const MOST_GATES: usize = 20000;
+use std::alloc::{AllocError, Global};
 
 // The size of an operand that is a whole register.
 pub(crate) fn whole_size(registers: &[Register], a: Arg) -> Option<u16>
@@ -67,7 +65,7 @@ fn other_size(registers: &[Register], args: &[Arg]) -> Option<usize>
 // The qubit of an operand at repetition i.
 #[tactic(auto, unfolding(qz_circ::specs::Grammar::qubit_at))]
 fn qubit_at(registers: &[Register], i: u16, a: Arg) -> u64
-    requires { length registers.now ≤ 64 }
+    requires { length registers.now ≤ most_registers }
     ensures { result ≡ spec.qubit_at registers.now i a }
 {
     let (before, _) = registers.split_at(registers.len().min(a.register as usize));
@@ -76,7 +74,7 @@ fn qubit_at(registers: &[Register], i: u16, a: Arg) -> u64
 
 // One of these operands has the qubit at repetition i.
 fn has_qubit(registers: &[Register], args: &[Arg], i: u16, qubit: u64) -> bool
-    requires { length registers.now ≤ 64 }
+    requires { length registers.now ≤ most_registers }
     ensures { result ≡ list_any (λ a. spec.qubit_at registers.now i a == qubit) args.now }
 {
     args.iter().any(|a| qubit_at(registers, i, *a) == qubit)
@@ -84,7 +82,7 @@ fn has_qubit(registers: &[Register], args: &[Arg], i: u16, qubit: u64) -> bool
 
 // The operand with number j has at repetition i the qubit of one of those before it.
 fn is_repeated(registers: &[Register], args: &[Arg], i: u16, j: usize) -> bool
-    requires few { length registers.now ≤ 64 }
+    requires few { length registers.now ≤ most_registers }
     requires within { j < length args.now }
     ensures { result ≡ spec.is_repeated (spec.qubits_at registers.now args.now i) j }
 {
@@ -94,7 +92,7 @@ fn is_repeated(registers: &[Register], args: &[Arg], i: u16, j: usize) -> bool
 
 // The same at some repetition of so many.
 fn is_ever_repeated(registers: &[Register], args: &[Arg], times: u16, j: usize) -> bool
-    requires few { length registers.now ≤ 64 }
+    requires few { length registers.now ≤ most_registers }
     requires within { j < length args.now }
     ensures { result ≡ list_any (λ i. spec.is_repeated (spec.qubits_at registers.now args.now i) j) (below times) }
 {
@@ -104,7 +102,7 @@ fn is_ever_repeated(registers: &[Register], args: &[Arg], times: u16, j: usize) 
 // The number of the first operand that has at some repetition the qubit of one before it.
 #[tactic(auto, unfolding(qz_circ::specs::Grammar::same_qubit))]
 fn same_qubit(registers: &[Register], args: &[Arg]) -> Option<usize>
-    requires { length registers.now ≤ 64 }
+    requires { length registers.now ≤ most_registers }
     ensures { result ≡ spec.same_qubit registers.now args.now }
 {
     let times = repetitions(registers, args);
@@ -113,8 +111,8 @@ fn same_qubit(registers: &[Register], args: &[Arg]) -> Option<usize>
 
 // The qubit of the operand with number j at repetition i, 0 where there is no such operand.
 fn qubit_of(registers: &[Register], args: &[Arg], i: u16, j: usize) -> u8
-    requires few { length registers.now ≤ 64 }
-    requires below { slice_index (spec.qubits_at registers.now args.now i) j < 64 }
+    requires few { length registers.now ≤ most_registers }
+    requires below { slice_index (spec.qubits_at registers.now args.now i) j < most_qubits }
     ensures { result ≡ slice_index (spec.qubits_at registers.now args.now i) j }
 {
     match args.get(j) {
@@ -123,26 +121,27 @@ fn qubit_of(registers: &[Register], args: &[Arg], i: u16, j: usize) -> u8
     }
 }
 
-// Appends the gates at all repetitions.
+// The gates at all repetitions.
 #[tactic(auto, unfolding(qz_circ::specs::Grammar::applied))]
-fn push_applied(
-    gates: &mut Vec<Inst>,
+fn applied(
+    alloc: Global,
     registers: &[Register],
     gate: GateName,
     k: u16,
     args: &[Arg],
-) -> Result<(), AllocError>
-    requires few { length registers.now ≤ 64 }
-    requires below { (i j : ℕ) → i < spec.repetitions registers.now args.now → slice_index (spec.qubits_at registers.now args.now i) j < 64 }
-    ensures { OnOk result (gates.new.items ≡ gates.old.items ++ spec.applied registers.now gate k args.now) }
+) -> Result<Vec<Inst>, AllocError>
+    requires few { length registers.now ≤ most_registers }
+    requires below { (i j : ℕ) → i < spec.repetitions registers.now args.now → slice_index (spec.qubits_at registers.now args.now i) j < most_qubits }
+    ensures { IfOk result (λ gates. gates.items ≡ spec.applied registers.now gate k args.now) }
 {
+    let mut gates = Vec::new(alloc);
     for i in 0..repetitions(registers, args) {
         let a = qubit_of(registers, args, i, 0);
         let b = qubit_of(registers, args, i, 1);
         let c = qubit_of(registers, args, i, 2);
-        push_gates(gates, gate, k, a, b, c)?;
+        push_gates(&mut gates, gate, k, a, b, c)?;
     }
-    Ok(())
+    Ok(gates)
 }
 
 // Where the name of the operand with number j begins, 0 where there is no such operand.
@@ -158,17 +157,17 @@ fn place_at(operands: &[Operand], j: usize) -> u64
 /// The gates, where whole registers have one size and no operand has the qubit of one before it.
 #[tactic(auto, unfolding(qz_circ::specs::Grammar::checked_gates))]
 pub(crate) fn checked_gates(
+    alloc: Global,
     registers: &[Register],
     gate: GateName,
     k: u16,
     operands: &[Operand],
     args: &[Arg],
-    gates: &mut Vec<Inst>,
-) -> Result<(), QasmFault>
-    requires few { length registers.now ≤ 64 }
-    requires few_qubits { total_size registers.now ≤ 64 }
+) -> Result<Vec<Inst>, QasmFault>
+    requires few { length registers.now ≤ most_registers }
+    requires few_qubits { total_size registers.now ≤ most_qubits }
     requires operands { AllByRecursion (IsOperand registers.now) args.now }
-    ensures { (bytes : List ℕ) → GivesUnless QasmFault.Memory (λ _. gates.new.items) result (spec.checked_gates registers.now gate k (view.operands bytes operands.now) args.now) }
+    ensures { (bytes : List ℕ) → GivesUnless QasmFault.Memory (λ gates. gates.items) result (spec.checked_gates registers.now gate k (view.operands bytes operands.now) args.now) }
 {
     if let Some(j) = other_size(registers, args) {
         return Err(QasmFault::Sizes {
@@ -180,11 +179,10 @@ pub(crate) fn checked_gates(
             place: place_at(operands, j),
         });
     }
-    gates.clear();
-    if push_applied(gates, registers, gate, k, args).is_err() {
-        return Err(QasmFault::Memory);
+    match applied(alloc, registers, gate, k, args) {
+        Ok(gates) => Ok(gates),
+        Err(_) => Err(QasmFault::Memory),
     }
-    Ok(())
 }
 
 /// The number of a gate's angle, which is 0 where it takes none.
@@ -203,17 +201,17 @@ pub(crate) fn angle_number(gate: GateName, tokens: &[Token]) -> Result<u16, Qasm
     }
 }
 
-// So many gates more are at most 20,000 in all.
+// So many gates more are within the limit.
 fn has_room(p: &Program, count: usize) -> bool
-    ensures { result ≡ not (nat_lt 20000 (length p.now.gates + count)) }
+    ensures { result ≡ not (nat_lt most_gates (length p.now.gates + count)) }
 {
     let present = p.gates().len();
     present <= MOST_GATES && count <= MOST_GATES - present
 }
 
-/// With gates more, while all together are at most 20,000.
+/// Adds gates, while all together are within their limit.
 #[tactic(auto, unfolding(qz_circ::specs::Grammar::with_gates))]
-pub(crate) fn with_gates(p: &mut Program, word: Token, gates: &[Inst]) -> Result<(), QasmFault>
+pub(crate) fn add_gates(p: &mut Program, word: Token, gates: &[Inst]) -> Result<(), QasmFault>
     ensures { (bytes : List ℕ) → GivesUnless QasmFault.Memory (λ _. p.new) result (spec.with_gates p.old (lexeme bytes word) gates.now) }
 {
     if !has_room(p, gates.len()) {

@@ -6,7 +6,7 @@ mod gate;
 mod gate_name;
 pub mod laws;
 mod lexeme;
-pub mod reader;
+mod reader;
 mod register;
 mod statement;
 

@@ -1,5 +1,5 @@
 //! Reads the text of a program.
-ghost use Rattle.std.specs.Prelude.{◌≡◌, ◌⊎◌, ◌<◌, ◌^◌, length, Err, IfOk};
+ghost use Rattle.std.specs.Prelude.{◌≡◌, ◌≢◌, ◌⊎◌, ◌<◌, ◌^◌, length, Err, IfOk};
 ghost use Rattle.qz_circ.specs.FirstFault.{GivesUnless, Gives, fault_as};
 ghost use Rattle.qz_circ.specs.Tokens.{tokens_of};
 ghost use Rattle.qz_circ.specs.Grammar.{program_of, program_from, with_statements};
@@ -10,7 +10,7 @@ ghost use Rattle.qz_qread.specs.Spelled.{AreSpelled};
 
 use crate::form::header_form;
 use crate::lexeme::{statement_len, text_of};
-use crate::statement::statement;
+use crate::statement::add_statement;
 use qz_circ::{LexFault, Program, QasmFault, Token};
 use qz_lex::tokens;
 use std::alloc::Global;
@@ -40,13 +40,13 @@ fn add_statements(
     requires spelled { AreSpelled (lexemes bytes.now ts.now) }
     ensures { GivesUnless QasmFault.Memory (λ _. p.new) result (with_statements (length bytes.now) p.old (statements_of (lexemes bytes.now ts.now))) }
 {
-    let mut place = 0;
-    while place < ts.len() {
-        let (_, rest) = ts.split_at(place);
+    let mut count = 0;
+    while count < ts.len() {
+        let (_, rest) = ts.split_at(count);
         let len = statement_len(rest);
         let (first, _) = rest.split_at(len);
-        match statement(alloc, bytes, p, first) {
-            Ok(()) => place += len,
+        match add_statement(alloc, bytes, p, first) {
+            Ok(()) => count += len,
             Err(fault) => return Err(fault),
         }
     }
@@ -93,7 +93,11 @@ pub fn read(alloc: Global, bytes: &[u8]) -> Result<Program, QasmFault>
     ensures faults { (e : QasmFault) → program_of bytes.now ≡ Err e → (result ≡ Err e) ⊎ (result ≡ Err QasmFault.Memory) }
     // The program is one whose text can be written.
     ensures valid { IfOk result Valid }
+    // Want of memory is answered as such alone, and never as a fault of tokens.
+    ensures memory_alone { result ≢ Err (QasmFault.Lex LexFault.Memory) }
 {
-    let ts = cut(alloc, bytes)?;
-    program(alloc, bytes, &ts)
+    match cut(alloc, bytes) {
+        Ok(ts) => program(alloc, bytes, &ts),
+        Err(fault) => Err(fault),
+    }
 }

@@ -4,8 +4,9 @@ ghost use Rattle.std.specs.List.{position, list_any, AllByRecursion};
 ghost use Rattle.std.specs.Str.{bytes_eq};
 ghost use Rattle.qz_circ.specs.Lexemes.{lexeme};
 ghost use Rattle.qz_circ.specs.FirstFault.{Gives, GivesUnless};
-ghost use Rattle.qz_circ.specs.Forms.{whole_value};
+ghost use Rattle.qz_circ.specs.Forms.{number_of};
 ghost use Rattle.qz_circ.specs.Grammar as spec;
+ghost use Rattle.qz_circ.specs.ProgramLimits.{most_registers};
 ghost use Rattle.qz_circ.specs.Registers.{total_size};
 ghost use Rattle.qz_circ.specs.ValidPrograms as valid;
 ghost use Rattle.qz_circ.specs.ValidPrograms.{IsOperand, IsPlaceBelow, registers_of};
@@ -13,19 +14,14 @@ ghost use Rattle.qz_qread.specs.Views as view;
 
 use crate::form::{Declaration, Operand};
 use crate::lexeme::text_of;
-use qz_circ::{Arg, Kind, Program, QasmFault, Register, Token, Which};
-
-// The most registers of both kinds together.
-const MOST_REGISTERS: usize = 64;
-
-// The most qubits, and the most classical bits.
-const MOST_QUBITS: u64 = 64;
-
-const MOST_BITS: u64 = 4096;
+use qz_circ::{
+    Arg, Kind, MOST_BITS, MOST_QUBITS, MOST_REGISTERS, Program, QasmFault, Register, Token, Which,
+};
+use std::alloc::Global;
 
 // The number that a token means, 0 where it isn't a whole one.
 fn value_of(t: Token) -> u64
-    ensures { result ≡ whole_value t.kind }
+    ensures { result ≡ number_of t.kind }
 {
     match t.kind {
         Kind::Whole(n) => n,
@@ -34,7 +30,7 @@ fn value_of(t: Token) -> u64
 }
 
 // The number of the first register with a name.
-fn place_of_name(registers: &[Register], name: &[u8]) -> Option<usize>
+fn number_of_name(registers: &[Register], name: &[u8]) -> Option<usize>
     ensures value { result ≡ position (λ r. bytes_eq r.name name.now) registers.now }
     ensures within { MatchOption result (Unit {0}) (λ k. k < length registers.now) }
 {
@@ -47,7 +43,7 @@ fn register_named(bytes: &[u8], registers: &[Register], name: Token) -> Result<u
     ensures value { result ≡ spec.register_named registers.now (lexeme bytes.now name) }
     ensures within { IfOk result (λ k. k < length registers.now) }
 {
-    match place_of_name(registers, text_of(bytes, name)) {
+    match number_of_name(registers, text_of(bytes, name)) {
         Some(k) => Ok(k),
         None => Err(QasmFault::UnknownName {
             place: u64::from(name.start),
@@ -86,7 +82,7 @@ pub(crate) fn size_at(registers: &[Register], k: usize) -> u16
 /// An operand among these registers.
 #[tactic(auto, unfolding(qz_circ::specs::Grammar::arg_of))]
 pub(crate) fn arg(bytes: &[u8], registers: &[Register], o: Operand) -> Result<Arg, QasmFault>
-    requires { length registers.now ≤ 64 }
+    requires { length registers.now ≤ most_registers }
     ensures value { result ≡ spec.arg_of registers.now (view.operand bytes.now o) }
     ensures within { IfOk result (IsOperand registers.now) }
 {
@@ -98,18 +94,18 @@ pub(crate) fn arg(bytes: &[u8], registers: &[Register], o: Operand) -> Result<Ar
     })
 }
 
-/// Operands among these registers, from left to right, in place of what the list held.
+/// Operands among these registers, from left to right.
 pub(crate) fn args(
+    alloc: Global,
     bytes: &[u8],
     registers: &[Register],
     operands: &[Operand],
-    args: &mut Vec<Arg>,
-) -> Result<(), QasmFault>
-    requires { length registers.now ≤ 64 }
-    ensures value { GivesUnless QasmFault.Memory (λ _. args.new.items) result (spec.args_of registers.now (view.operands bytes.now operands.now)) }
-    ensures within { IfOk result (λ _. AllByRecursion (IsOperand registers.now) args.new.items) }
+) -> Result<Vec<Arg>, QasmFault>
+    requires { length registers.now ≤ most_registers }
+    ensures value { GivesUnless QasmFault.Memory (λ v. v.items) result (spec.args_of registers.now (view.operands bytes.now operands.now)) }
+    ensures within { IfOk result (λ v. AllByRecursion (IsOperand registers.now) v.items) }
 {
-    args.clear();
+    let mut args = Vec::new(alloc);
     for o in operands {
         match arg(bytes, registers, *o) {
             Ok(found) => {
@@ -120,7 +116,7 @@ pub(crate) fn args(
             Err(fault) => return Err(fault),
         }
     }
-    Ok(())
+    Ok(args)
 }
 
 // One of the registers has the name.
@@ -137,19 +133,19 @@ fn has_register(p: &Program, name: &[u8]) -> bool
     has_name(p.qregs(), name) || has_name(p.cregs(), name)
 }
 
-// There are fewer than 64 registers.
+// There may be another register.
 fn has_room(p: &Program) -> bool
-    ensures { result ≡ nat_lt (length (registers_of p.now)) 64 }
+    ensures { result ≡ nat_lt (length (registers_of p.now)) most_registers }
 {
     let left = MOST_REGISTERS.saturating_sub(p.qregs().len());
     p.cregs().len() < left
 }
 
-// The size of a register that may be declared: its name is new, and there are fewer than 64.
+// The size of a register that may be declared: its name is new, and there may be another register.
 #[tactic(auto, unfolding(qz_circ::specs::Grammar::declared))]
 fn declared(bytes: &[u8], p: &Program, d: Declaration) -> Result<u64, QasmFault>
     ensures value { Gives (λ size. record { name = (lexeme bytes.now d.name).text; size = size }) result (spec.declared p.now (view.declaration bytes.now d)) }
-    ensures few { IfOk result (λ _. length (registers_of p.now) < 64) }
+    ensures few { IfOk result (λ _. length (registers_of p.now) < most_registers) }
 {
     if has_register(p, text_of(bytes, d.name)) {
         return Err(QasmFault::Twice {
@@ -168,7 +164,7 @@ fn declared(bytes: &[u8], p: &Program, d: Declaration) -> Result<u64, QasmFault>
 
 // How many qubits or bits registers have together.
 pub(crate) fn total_size(registers: &[Register]) -> u32
-    requires { length registers.now ≤ 64 }
+    requires { length registers.now ≤ most_registers }
     ensures { result ≡ total_size registers.now }
 {
     registers.iter().map(|r| u32::from(r.size())).sum()
@@ -176,20 +172,20 @@ pub(crate) fn total_size(registers: &[Register]) -> u32
 
 // A register of this size more keeps the total within a limit.
 fn fits(registers: &[Register], size: u64, limit: u64) -> bool
-    requires { length registers.now < 64 }
+    requires { length registers.now < most_registers }
     ensures { result ≡ not (nat_lt limit (total_size registers.now + size)) }
 {
     let total = u64::from(total_size(registers));
     total <= limit && size <= limit - total
 }
 
-/// With a register of qubits more, while all together are at most 64.
+/// Adds a register of qubits, while all together are within their limit.
 #[tactic(auto, unfolding(qz_circ::specs::Grammar::with_qreg))]
-pub(crate) fn with_qreg(bytes: &[u8], p: &mut Program, d: Declaration) -> Result<(), QasmFault>
+pub(crate) fn declare_qubits(bytes: &[u8], p: &mut Program, d: Declaration) -> Result<(), QasmFault>
     ensures { GivesUnless QasmFault.Memory (λ _. p.new) result (spec.with_qreg p.old (view.declaration bytes.now d)) }
 {
     let size = declared(bytes, p, d)?;
-    if !fits(p.qregs(), size, MOST_QUBITS) {
+    if !fits(p.qregs(), size, MOST_QUBITS as u64) {
         return Err(QasmFault::Limit {
             which: Which::ProgramQubits,
             place: u64::from(d.size.start),
@@ -201,13 +197,13 @@ pub(crate) fn with_qreg(bytes: &[u8], p: &mut Program, d: Declaration) -> Result
     Ok(())
 }
 
-/// With a register of bits more, while all together are at most 4,096.
+/// Adds a register of classical bits, while all together are within their limit.
 #[tactic(auto, unfolding(qz_circ::specs::Grammar::with_creg))]
-pub(crate) fn with_creg(bytes: &[u8], p: &mut Program, d: Declaration) -> Result<(), QasmFault>
+pub(crate) fn declare_bits(bytes: &[u8], p: &mut Program, d: Declaration) -> Result<(), QasmFault>
     ensures { GivesUnless QasmFault.Memory (λ _. p.new) result (spec.with_creg p.old (view.declaration bytes.now d)) }
 {
     let size = declared(bytes, p, d)?;
-    if !fits(p.cregs(), size, MOST_BITS) {
+    if !fits(p.cregs(), size, MOST_BITS as u64) {
         return Err(QasmFault::Limit {
             which: Which::ProgramBits,
             place: u64::from(d.size.start),

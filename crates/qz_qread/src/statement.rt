@@ -1,5 +1,5 @@
 //! Statements: what each of them adds to a program.
-ghost use Rattle.std.specs.Prelude.{◌≡◌, ◌≤◌, ℕ, length, Ok};
+ghost use Rattle.std.specs.Prelude.{◌≡◌, ◌≤◌, length};
 ghost use Rattle.std.specs.List.{list_any};
 ghost use Rattle.std.specs.Str.{bytes_eq};
 ghost use Rattle.std.specs.Option.{ok_or, option_eq};
@@ -8,6 +8,7 @@ ghost use Rattle.qz_circ.specs.FirstFault.{Gives, GivesUnless};
 ghost use Rattle.qz_circ.specs.Grammar as spec;
 ghost use Rattle.qz_circ.specs.Lexemes.{lexeme, lexemes};
 ghost use Rattle.qz_circ.specs.GateNames as names;
+ghost use Rattle.qz_circ.specs.ProgramLimits.{most_registers};
 ghost use Rattle.qz_circ.specs.Programs.{ProgramParts};
 ghost use Rattle.qz_qread.specs.Stated as stated;
 ghost use Rattle.qz_qread.specs.Views as views;
@@ -16,16 +17,16 @@ ghost use Rattle.qz_circ.specs.ValidPrograms.{Valid};
 use crate::form::{
     GateForm, barrier_form, declaration_form, gate_form, measure_form, misfit, token,
 };
-use crate::gate::{angle_number, checked_gates, whole_size, with_gates};
+use crate::gate::{add_gates, angle_number, checked_gates, whole_size};
 use crate::gate_name::gate_named;
 use crate::lexeme::{Sort, begins_lower, is_of, text_of};
-use crate::register::{arg, args, with_creg, with_qreg};
+use crate::register::{arg, args, declare_bits, declare_qubits};
 use qz_circ::{Arg, GateName, Program, QasmFault, Register, Token};
 use std::alloc::Global;
 
-// An inclusion, which changes no program.
+// Checks an inclusion, which changes no program.
 #[tactic(auto, unfolding(qz_circ::specs::Grammar::with_inclusion))]
-fn inclusion(bytes: &[u8], ts: &[Token]) -> Result<(), QasmFault>
+fn check_inclusion(bytes: &[u8], ts: &[Token]) -> Result<(), QasmFault>
     ensures { (p : ProgramParts) → Gives (λ _. p) result (spec.with_inclusion (length bytes.now) p (lexemes bytes.now ts.now)) }
 {
     let (file, rest) = token(bytes, Sort::Text, ts)?;
@@ -38,31 +39,30 @@ fn inclusion(bytes: &[u8], ts: &[Token]) -> Result<(), QasmFault>
     Ok(())
 }
 
-// A declaration of qubits.
-fn qubits(bytes: &[u8], p: &mut Program, ts: &[Token]) -> Result<(), QasmFault>
+// Adds the register of a declaration of qubits.
+fn add_qubits(bytes: &[u8], p: &mut Program, ts: &[Token]) -> Result<(), QasmFault>
     ensures { GivesUnless QasmFault.Memory (λ _. p.new) result (stated.with_qubits (length bytes.now) p.old (lexemes bytes.now ts.now)) }
 {
     let declaration = declaration_form(bytes, ts)?;
-    with_qreg(bytes, p, declaration)
+    declare_qubits(bytes, p, declaration)
 }
 
-// A declaration of classical bits.
-fn bits(bytes: &[u8], p: &mut Program, ts: &[Token]) -> Result<(), QasmFault>
+// Adds the register of a declaration of classical bits.
+fn add_bits(bytes: &[u8], p: &mut Program, ts: &[Token]) -> Result<(), QasmFault>
     ensures { GivesUnless QasmFault.Memory (λ _. p.new) result (stated.with_bits (length bytes.now) p.old (lexemes bytes.now ts.now)) }
 {
     let declaration = declaration_form(bytes, ts)?;
-    with_creg(bytes, p, declaration)
+    declare_bits(bytes, p, declaration)
 }
 
-// A barrier.
+// Adds a barrier.
 #[tactic(auto, unfolding(qz_circ::specs::Grammar::with_barrier))]
-fn barrier(alloc: Global, bytes: &[u8], p: &mut Program, ts: &[Token]) -> Result<(), QasmFault>
-    requires { length p.old.qregs ≤ 64 }
+fn add_barrier(alloc: Global, bytes: &[u8], p: &mut Program, ts: &[Token]) -> Result<(), QasmFault>
+    requires { length p.old.qregs ≤ most_registers }
     ensures { GivesUnless QasmFault.Memory (λ _. p.new) result (spec.with_barrier (length bytes.now) p.old (lexemes bytes.now ts.now)) }
 {
     let operands = barrier_form(alloc, bytes, ts)?;
-    let mut found = Vec::new(alloc);
-    args(bytes, p.qregs(), &operands, &mut found)?;
+    let found = args(alloc, bytes, p.qregs(), &operands)?;
     if p.add_barrier(&found).is_err() {
         return Err(QasmFault::Memory);
     }
@@ -76,11 +76,11 @@ fn are_alike(qregs: &[Register], from: Arg, cregs: &[Register], to: Arg) -> bool
     whole_size(qregs, from) == whole_size(cregs, to)
 }
 
-// A measurement.
+// Adds a measurement.
 #[tactic(auto, unfolding(qz_circ::specs::Grammar::with_measurement))]
-fn measurement(bytes: &[u8], p: &mut Program, ts: &[Token]) -> Result<(), QasmFault>
-    requires qregs { length p.old.qregs ≤ 64 }
-    requires cregs { length p.old.cregs ≤ 64 }
+fn add_measurement(bytes: &[u8], p: &mut Program, ts: &[Token]) -> Result<(), QasmFault>
+    requires qregs { length p.old.qregs ≤ most_registers }
+    requires cregs { length p.old.cregs ≤ most_registers }
     ensures { GivesUnless QasmFault.Memory (λ _. p.new) result (spec.with_measurement (length bytes.now) p.old (lexemes bytes.now ts.now)) }
 {
     let form = measure_form(bytes, ts)?;
@@ -128,9 +128,9 @@ fn ordered_gate_form<'a>(
     gate_form(alloc, bytes, gate, ts)
 }
 
-// A gate.
+// Adds what a gate is read as.
 #[tactic(auto, unfolding(qz_circ::specs::Grammar::with_gate))]
-fn gate(
+fn add_gate(
     alloc: Global,
     bytes: &[u8],
     p: &mut Program,
@@ -143,11 +143,9 @@ fn gate(
     let name = known_gate(bytes, word)?;
     let form = ordered_gate_form(alloc, bytes, p, name, word, ts)?;
     let k = angle_number(name, form.angle)?;
-    let mut found = Vec::new(alloc);
-    args(bytes, p.qregs(), &form.operands, &mut found)?;
-    let mut gates = Vec::new(alloc);
-    checked_gates(p.qregs(), name, k, &form.operands, &found, &mut gates)?;
-    with_gates(p, word, &gates)
+    let found = args(alloc, bytes, p.qregs(), &form.operands)?;
+    let gates = checked_gates(alloc, p.qregs(), name, k, &form.operands, &found)?;
+    add_gates(p, word, &gates)
 }
 
 // The words of OpenQASM 2.0 that are not read.
@@ -163,9 +161,9 @@ fn is_unsupported(word: &[u8]) -> bool
         || word == b"CX".as_slice()
 }
 
-// What a word and the tokens after it state.
+// Adds what a word and the tokens after it state.
 #[tactic(auto, unfolding(qz_circ::specs::Grammar::with_words))]
-fn words(
+fn add_words(
     alloc: Global,
     bytes: &[u8],
     p: &mut Program,
@@ -177,19 +175,19 @@ fn words(
 {
     let text = text_of(bytes, word);
     if text == b"include".as_slice() {
-        return inclusion(bytes, ts);
+        return check_inclusion(bytes, ts);
     }
     if text == b"qreg".as_slice() {
-        return qubits(bytes, p, ts);
+        return add_qubits(bytes, p, ts);
     }
     if text == b"creg".as_slice() {
-        return bits(bytes, p, ts);
+        return add_bits(bytes, p, ts);
     }
     if text == b"barrier".as_slice() {
-        return barrier(alloc, bytes, p, ts);
+        return add_barrier(alloc, bytes, p, ts);
     }
     if text == b"measure".as_slice() {
-        return measurement(bytes, p, ts);
+        return add_measurement(bytes, p, ts);
     }
     if is_unsupported(text) {
         return Err(QasmFault::Unsupported {
@@ -197,14 +195,14 @@ fn words(
         });
     }
     if begins_lower(text) {
-        return gate(alloc, bytes, p, word, ts);
+        return add_gate(alloc, bytes, p, word, ts);
     }
     Err(misfit(word))
 }
 
 /// Adds what a statement states.
 #[tactic(auto, unfolding(qz_circ::specs::Grammar::with_statement))]
-pub(crate) fn statement(
+pub(crate) fn add_statement(
     alloc: Global,
     bytes: &[u8],
     p: &mut Program,
@@ -217,7 +215,7 @@ pub(crate) fn statement(
         [] => Ok(()),
         [first, rest @ ..] => {
             if is_of(Sort::Word, first.kind) {
-                words(alloc, bytes, p, *first, rest)
+                add_words(alloc, bytes, p, *first, rest)
             } else {
                 Err(misfit(*first))
             }

@@ -1,6 +1,5 @@
 //! The place of a circuit among others that are different and in order.
 ghost use Rattle.std.specs.Prelude.{◌≡◌, ◌<◌, ◌≤◌, [], length, take, slice_index_or};
-ghost use Rattle.std.specs.Ordering.{eq_by_cmp};
 ghost use Rattle.qz_circ.specs.ProgramCircuits.{program_cmp};
 ghost use Rattle.qz_circ.specs.Search.{is_among};
 ghost use Rattle.qz_queue.specs.Circuits.{circuits, AreOrdered, IsFront, place_of};
@@ -55,14 +54,6 @@ fn probe(low: usize, high: usize, count: usize) -> usize
     }
 }
 
-// Whether the circuit with this number is equal to another one.
-fn is_equal(list: &[Vec<Inst>], i: usize, c: &[Inst]) -> bool
-    requires { i < length list.now }
-    ensures { result ≡ eq_by_cmp program_cmp c.now (slice_index_or (circuits list.now) i []) }
-{
-    compare_gates(c, &list[i], 0).0.is_eq()
-}
-
 // How many of some circuits that are different and in order are before another one, and whether it is among them. What is known
 // to be the same as in the nearest ones on both sides is the same in those between, so that it isn't compared again.
 pub(crate) fn find(list: &[Vec<Inst>], c: &[Inst]) -> (usize, bool)
@@ -89,22 +80,4 @@ pub(crate) fn find(list: &[Vec<Inst>], c: &[Inst]) -> (usize, bool)
         }
     }
     (low, found)
-}
-
-// How many of them are before another one.
-pub(crate) fn place(list: &[Vec<Inst>], c: &[Inst]) -> usize
-    requires { AreOrdered (circuits list.now) }
-    ensures place { result ≡ place_of (circuits list.now) c.now }
-    ensures bound { result ≤ length list.now }
-{
-    find(list, c).0
-}
-
-// Whether a circuit is among some that are different and in order, where so many of them are before it.
-pub(crate) fn is_there(list: &[Vec<Inst>], place: usize, c: &[Inst]) -> bool
-    requires ordered { AreOrdered (circuits list.now) }
-    requires place { place ≡ place_of (circuits list.now) c.now }
-    ensures { result ≡ is_among (circuits list.now) c.now }
-{
-    place < list.len() && is_equal(list, place, c)
 }

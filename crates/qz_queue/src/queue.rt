@@ -3,10 +3,9 @@ ghost use Rattle.std.specs.Prelude.{◌≡◌, ◌<◌, ◌≤◌, ◌-◌, ◌�
 ghost use Rattle.std.specs.List.{insert};
 ghost use Rattle.qz_circ.specs.ProgramCircuits.{ProgramCircuit, cost};
 ghost use Rattle.qz_circ.specs.Queue.{IsQueue, IsRefused, firsts};
-ghost use Rattle.qz_circ.specs.Search.{is_among};
 ghost use Rattle.qz_queue.specs.Circuits.{circuits};
 
-use crate::place::{find, is_there, place};
+use crate::place::find;
 use qz_circ::{Inst, Memory};
 use std::alloc::Global;
 use std::marker::Model;
@@ -89,11 +88,11 @@ impl Queue {
         ensures refused { (result ≡ false) ↔ IsRefused self.old c.items }
         ensures kept { result ≡ false → self.new ≡ self.old }
     {
-        let place = place(&self.list, &c);
+        let (place, found) = find(&self.list, &c);
         if place == self.cap {
             return false;
         }
-        if is_there(&self.list, place, &c) {
+        if found {
             return false;
         }
         put(&mut self.list, self.cap, place, c)
@@ -141,14 +140,6 @@ impl Queue {
         ensures lawful { IsQueue self.now }
     {
         self.list.len() as u64
-    }
-
-    /// Whether it holds this circuit.
-    pub fn contains(&self, c: &[Inst]) -> bool
-        ensures { result ≡ is_among self.now.list c.now }
-    {
-        let place = place(&self.list, c);
-        is_there(&self.list, place, c)
     }
 
     /// Whether it refuses this circuit: the circuit is there, or as many earlier ones are there as the queue holds at most. To

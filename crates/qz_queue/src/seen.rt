@@ -4,7 +4,7 @@ ghost use Rattle.qz_circ.specs.ProgramCircuits.{program_cmp};
 ghost use Rattle.qz_circ.specs.Queue.{different};
 ghost use Rattle.qz_circ.specs.Search.{is_among};
 
-use crate::place::{is_there, place};
+use crate::place::find;
 use qz_circ::{Inst, Memory};
 use std::alloc::Global;
 use std::marker::Model;
@@ -42,8 +42,8 @@ impl Seen {
         ensures ok { OnOk result (self.new ≡ different program_cmp (c.items ∷ self.old)) }
         ensures err { OnErr result (self.new ≡ self.old) }
     {
-        let place = place(&self.list, &c);
-        if is_there(&self.list, place, &c) {
+        let (place, found) = find(&self.list, &c);
+        if found {
             return Ok(());
         }
         if self.list.insert(place, c).is_err() {
@@ -56,7 +56,6 @@ impl Seen {
     pub fn contains(&self, c: &[Inst]) -> bool
         ensures { result ≡ is_among self.now c.now }
     {
-        let place = place(&self.list, c);
-        is_there(&self.list, place, c)
+        find(&self.list, c).1
     }
 }

@@ -1,5 +1,5 @@
 //! The texts of angles.
-ghost use Rattle.std.specs.Prelude.{◌≡◌, ◌<◌, ◌≤◌, ◌++◌, OnOk};
+ghost use Rattle.std.specs.Prelude.{◌≡◌, ◌<◌, ◌++◌, OnOk};
 ghost use Rattle.std.specs.Fmt.{decimal};
 ghost use Rattle.qz_circ.specs.ProgramText.{lowest_terms, multiple_text, divisor_text, positive_angle_text, angle_text};
 

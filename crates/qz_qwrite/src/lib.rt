@@ -5,6 +5,6 @@ mod angle;
 mod lines;
 mod operand;
 mod qubit;
-pub mod writer;
+mod writer;
 
 pub use writer::write;

@@ -5,3 +5,4 @@ pub mod SidesAre
 pub mod Sorting
 pub mod Children
 pub mod Renamed
+pub mod RenamedUsable

@@ -1,12 +1,11 @@
 -- A rule whose qubits are renamed has the same children.
-use Rattle.std.proofs.Common.{◌≡◌, ◌≢◌, ℕ, zero, suc, ◌+◌, ◌<◌, ◌≤◌, ◌==◌, ◌&&◌, ◌||◌, Bool, true, false, if◌then◌else◌, List, [], ◌∷◌, ◌++◌, map, length, Option, Some, None, refl, sym, ap, ◌∙◌, ◌⊎◌, inl, inr, arith}
+use Rattle.std.proofs.Common.{◌≡◌, ◌≢◌, ℕ, zero, suc, ◌+◌, ◌<◌, ◌==◌, ◌&&◌, ◌||◌, Bool, true, false, if◌then◌else◌, List, [], ◌∷◌, ◌++◌, map, length, Option, Some, None, refl, sym, ap, ◌∙◌, ◌⊎◌, inl, inr, arith}
 use Rattle.std.specs.Prelude.{slice_set}
-use Rattle.std.specs.List.{AllByRecursion, filter_map, flat_map, cons_option}
+use Rattle.std.specs.List.{AllByRecursion, filter_map, cons_option}
 use Rattle.std.specs.Option.{option_map, unwrap_or}
 use Rattle.std.proofs.lemmas.Bool.{cases_eq, eq-eqb, ne_eqb}
 use Rattle.std.proofs.lemmas.List.{length-set, length-map}
 use Rattle.qz_circ.specs.declared.binding.Binding.{Binding}
-use Rattle.qz_circ.specs.declared.circuit.Expr.{Expr}
 use Rattle.qz_circ.specs.declared.circuit.Op.{Op}
 use Rattle.qz_circ.specs.declared.circuit.Op.TheVariants.{H, X, Cx, Rz}
 use Rattle.qz_circ.specs.declared.circuit.Inst.{Inst}
@@ -292,7 +291,7 @@ exchanged_below s t h g = by (t == s) (t == suc s)
     by false true = omega arith
     by false false = g
 
-exchanged_apart : (s t u : ℕ) → exchanged s t ≡ exchanged s u → t ≡ u
+pub exchanged_apart : (s t u : ℕ) → exchanged s t ≡ exchanged s u → t ≡ u
 exchanged_apart s t u = by (cases_eq t s) (cases_eq t (suc s)) (cases_eq u s) (cases_eq u (suc s))
   where
     at_first : (t : ℕ) → t ≡ s → exchanged s t ≡ suc s

@@ -7,6 +7,7 @@ ghost use Rattle.qz_circ.specs.ProgramCircuits.{IsProgramGate};
 use qz_circ::{Expr, Inst, Op};
 use qz_match::{Place, places};
 use std::alloc::{AllocError, Global};
+use std::test::Fail;
 
 // A number, or a dash for none.
 fn push_slot(alloc: Global, text: &mut String, slot: Option<u16>) -> Result<(), AllocError> {
@@ -37,17 +38,14 @@ fn push_place(alloc: Global, text: &mut String, place: &Place) -> Result<(), All
     text.push_str("; ")
 }
 
-// The text of some places.
-fn text_of(alloc: Global, places: &[Place]) -> Result<String, AllocError> {
-    let mut text = String::new(alloc);
-    for place in places {
-        push_place(alloc, &mut text, place)?;
-    }
-    Ok(text)
-}
-
 // All places are these.
-fn are_places(alloc: Global, left: &[Op], right: &[Op], c: &[Inst], wanted: &str) -> bool
+fn are_places(
+    alloc: Global,
+    left: &[Op],
+    right: &[Op],
+    c: &[Inst],
+    wanted: &str,
+) -> Result<bool, Fail>
     requires left_short { length left.now ≤ 6 }
     requires left_on { IsOn 3 3 left.now }
     requires right_short { length right.now ≤ 6 }
@@ -55,18 +53,16 @@ fn are_places(alloc: Global, left: &[Op], right: &[Op], c: &[Inst], wanted: &str
     requires short { length c.now ≤ 20004 }
     requires lawful { AllByRecursion (IsProgramGate 64) c.now }
 {
-    let Ok(found) = places(alloc, left, right, c) else {
-        return false;
-    };
-    match text_of(alloc, &found) {
-        Ok(text) => text.as_str() == wanted,
-        Err(_) => false,
+    let mut text = String::new(alloc);
+    for place in &places(alloc, left, right, c)? {
+        push_place(alloc, &mut text, place)?;
     }
+    Ok(text.as_str() == wanted)
 }
 
 // Where a left side stands, in order.
 #[test]
-fn places_in_order(rt: HostRuntime) {
+fn places_in_order(rt: HostRuntime) -> Result<(), Fail> {
     let alloc = rt.alloc();
     assert!(rt;
         are_places(
@@ -75,7 +71,7 @@ fn places_in_order(rt: HostRuntime) {
             &[],
             &[Inst::H(0), Inst::H(0), Inst::H(0)],
             "0 1 | 0 - - | - - -; 1 2 | 0 - - | - - -; "
-        ),
+        )?,
         "overlapping"
     );
     assert!(rt;
@@ -85,7 +81,7 @@ fn places_in_order(rt: HostRuntime) {
             &[],
             &[Inst::H(0), Inst::H(1), Inst::H(0), Inst::H(1)],
             "0 2 | 0 - - | - - -; 1 3 | 1 - - | - - -; "
-        ),
+        )?,
         "on two qubits in turn"
     );
     assert!(rt;
@@ -95,7 +91,7 @@ fn places_in_order(rt: HostRuntime) {
             &[],
             &[Inst::H(0), Inst::Cx(1, 2), Inst::H(0)],
             "0 2 | 0 - - | - - -; "
-        ),
+        )?,
         "past a gate on other qubits"
     );
     assert!(rt;
@@ -105,7 +101,7 @@ fn places_in_order(rt: HostRuntime) {
             &[],
             &[Inst::H(0), Inst::Cx(0, 1), Inst::H(0)],
             ""
-        ),
+        )?,
         "a gate between on the qubit"
     );
     assert!(rt;
@@ -115,7 +111,7 @@ fn places_in_order(rt: HostRuntime) {
             &[],
             &[Inst::Cx(0, 1), Inst::H(2), Inst::H(0), Inst::X(1)],
             "0 3 | 0 1 - | - - -; "
-        ),
+        )?,
         "one gate before and one after"
     );
     assert!(rt;
@@ -125,7 +121,7 @@ fn places_in_order(rt: HostRuntime) {
             &[],
             &[Inst::H(0), Inst::Cx(0, 1), Inst::X(1), Inst::X(1)],
             "2 3 | 1 - - | - - -; "
-        ),
+        )?,
         "at the end"
     );
     assert!(rt;
@@ -135,11 +131,11 @@ fn places_in_order(rt: HostRuntime) {
             &[],
             &[Inst::X(3), Inst::H(3), Inst::X(63)],
             "0 | 3 - - | - - -; 2 | 63 - - | - - -; "
-        ),
+        )?,
         "one gate"
     );
     assert!(rt;
-        are_places(alloc, &[Op::X(0)], &[], &[], ""),
+        are_places(alloc, &[Op::X(0)], &[], &[], "")?,
         "none in an empty program"
     );
     assert!(rt;
@@ -155,14 +151,15 @@ fn places_in_order(rt: HostRuntime) {
                 Inst::H(5)
             ],
             "0 2 3 | 4 5 - | - - -; "
-        ),
+        )?,
         "three gates, walked back and forth"
     );
+    Ok(())
 }
 
 // Gates that can't be brought together, and rules that aren't usable.
 #[test]
-fn places_that_gather(rt: HostRuntime) {
+fn places_that_gather(rt: HostRuntime) -> Result<(), Fail> {
     let alloc = rt.alloc();
     assert!(rt;
         are_places(
@@ -176,7 +173,7 @@ fn places_that_gather(rt: HostRuntime) {
                 Inst::Cx(1, 2)
             ],
             ""
-        ),
+        )?,
         "apart by two gates"
     );
     assert!(rt;
@@ -186,7 +183,7 @@ fn places_that_gather(rt: HostRuntime) {
             &[],
             &[Inst::Cx(0, 1), Inst::Cx(0, 3), Inst::Cx(1, 2)],
             "0 2 | 0 1 2 | - - -; "
-        ),
+        )?,
         "apart by one of them"
     );
     assert!(rt;
@@ -196,15 +193,15 @@ fn places_that_gather(rt: HostRuntime) {
             &[],
             &[Inst::H(0), Inst::X(1), Inst::X(0)],
             ""
-        ),
+        )?,
         "not connected"
     );
     assert!(rt;
-        are_places(alloc, &[], &[], &[Inst::H(0), Inst::H(0)], ""),
+        are_places(alloc, &[], &[], &[Inst::H(0), Inst::H(0)], "")?,
         "an empty left side"
     );
     assert!(rt;
-        are_places(alloc, &[Op::H(0)], &[Op::X(1)], &[Inst::H(0)], ""),
+        are_places(alloc, &[Op::H(0)], &[Op::X(1)], &[Inst::H(0)], "")?,
         "a qubit of the right side alone"
     );
     assert!(rt;
@@ -214,7 +211,7 @@ fn places_that_gather(rt: HostRuntime) {
             &[Op::Rz(0, Expr::Plus(1))],
             &[Inst::Rz(0, 9)],
             ""
-        ),
+        )?,
         "a parameter of the right side alone"
     );
     assert!(rt;
@@ -224,14 +221,15 @@ fn places_that_gather(rt: HostRuntime) {
             &[Op::Rz(0, Expr::Minus(1))],
             &[Inst::Rz(0, 9)],
             "0 | 0 - - | - 9 -; "
-        ),
+        )?,
         "a parameter of both sides"
     );
+    Ok(())
 }
 
 // What qubits stand for.
 #[test]
-fn qubits_bound(rt: HostRuntime) {
+fn qubits_bound(rt: HostRuntime) -> Result<(), Fail> {
     let alloc = rt.alloc();
     assert!(rt;
         are_places(
@@ -240,7 +238,7 @@ fn qubits_bound(rt: HostRuntime) {
             &[],
             &[Inst::Cx(3, 5), Inst::Cx(5, 3), Inst::Cx(5, 3)],
             "0 1 | 3 5 - | - - -; "
-        ),
+        )?,
         "the other way round"
     );
     assert!(rt;
@@ -250,7 +248,7 @@ fn qubits_bound(rt: HostRuntime) {
             &[],
             &[Inst::Cx(3, 5), Inst::Cx(3, 5)],
             ""
-        ),
+        )?,
         "not the same way"
     );
     assert!(rt;
@@ -260,7 +258,7 @@ fn qubits_bound(rt: HostRuntime) {
             &[],
             &[Inst::Cx(3, 5), Inst::Cx(3, 5)],
             ""
-        ),
+        )?,
         "two for one"
     );
     assert!(rt;
@@ -270,7 +268,7 @@ fn qubits_bound(rt: HostRuntime) {
             &[],
             &[Inst::Cx(3, 5), Inst::Cx(3, 4)],
             "0 1 | 3 5 4 | - - -; "
-        ),
+        )?,
         "one for each"
     );
     assert!(rt;
@@ -280,14 +278,15 @@ fn qubits_bound(rt: HostRuntime) {
             &[],
             &[Inst::X(3), Inst::X(4)],
             ""
-        ),
+        )?,
         "one for two"
     );
+    Ok(())
 }
 
 // What parameters stand for.
 #[test]
-fn parameters_bound(rt: HostRuntime) {
+fn parameters_bound(rt: HostRuntime) -> Result<(), Fail> {
     let alloc = rt.alloc();
     assert!(rt;
         are_places(
@@ -300,7 +299,7 @@ fn parameters_bound(rt: HostRuntime) {
             &[],
             &[Inst::Rz(0, 5), Inst::Cx(0, 1), Inst::Rz(1, 5)],
             "0 1 2 | 0 1 - | 5 - -; "
-        ),
+        )?,
         "twice the same"
     );
     assert!(rt;
@@ -314,7 +313,7 @@ fn parameters_bound(rt: HostRuntime) {
             &[],
             &[Inst::Rz(0, 5), Inst::Cx(0, 1), Inst::Rz(1, 6)],
             ""
-        ),
+        )?,
         "twice different"
     );
     assert!(rt;
@@ -324,7 +323,7 @@ fn parameters_bound(rt: HostRuntime) {
             &[],
             &[Inst::Rz(0, 5), Inst::X(0)],
             ""
-        ),
+        )?,
         "a sum of two free ones"
     );
     assert!(rt;
@@ -338,7 +337,7 @@ fn parameters_bound(rt: HostRuntime) {
             &[],
             &[Inst::Rz(0, 100), Inst::X(0), Inst::Rz(0, 5)],
             "0 1 2 | 0 - - | 100 417 -; "
-        ),
+        )?,
         "the second of a sum"
     );
     assert!(rt;
@@ -352,7 +351,7 @@ fn parameters_bound(rt: HostRuntime) {
             &[],
             &[Inst::Rz(0, 5), Inst::X(0), Inst::Rz(0, 100)],
             "0 1 2 | 0 - - | - 95 5; "
-        ),
+        )?,
         "the first of a sum"
     );
     assert!(rt;
@@ -366,7 +365,7 @@ fn parameters_bound(rt: HostRuntime) {
             &[],
             &[Inst::Rz(0, 300), Inst::Rz(0, 300), Inst::Rz(0, 88)],
             "0 1 2 | 0 - - | 300 300 -; "
-        ),
+        )?,
         "both of a sum"
     );
     assert!(rt;
@@ -380,7 +379,7 @@ fn parameters_bound(rt: HostRuntime) {
             &[],
             &[Inst::Rz(0, 300), Inst::Rz(0, 300), Inst::Rz(0, 89)],
             ""
-        ),
+        )?,
         "both of another sum"
     );
     assert!(rt;
@@ -390,7 +389,7 @@ fn parameters_bound(rt: HostRuntime) {
             &[],
             &[Inst::Rz(7, 5), Inst::Rz(7, 507), Inst::Rz(7, 5)],
             "0 1 | 7 - - | 507 - -; 1 2 | 7 - - | 5 - -; "
-        ),
+        )?,
         "a negative"
     );
     assert!(rt;
@@ -400,7 +399,7 @@ fn parameters_bound(rt: HostRuntime) {
             &[],
             &[Inst::Rz(0, 64), Inst::Rz(0, 448), Inst::Rz(0, 64)],
             "0 1 | 0 - - | - - -; "
-        ),
+        )?,
         "constants"
     );
     assert!(rt;
@@ -414,7 +413,8 @@ fn parameters_bound(rt: HostRuntime) {
             &[],
             &[Inst::Rz(0, 5), Inst::X(0), Inst::Rz(0, 5)],
             "0 1 2 | 0 - - | 5 0 -; "
-        ),
+        )?,
         "a sum that is none"
     );
+    Ok(())
 }

@@ -130,7 +130,7 @@ first_text_takes (text ∷ texts) bytes k rest e =
           let more = first_text_takes texts bytes found.0.0 found.0.1 found.1 in
           let number : suc found.0.0 ≡ k = ap (λ (p : ℕ × List ℕ). p.0) found.2 in
           let behind : found.0.1 ≡ rest = ap (λ (p : ℕ × List ℕ). p.1) found.2 in
-          (more.0, subst (λ (n : ℕ). slice_get (text ∷ texts) n ≡ Some more.0) number more.1, more.2 ∙ ap (λ (z : List ℕ). more.0 ++ z) behind)
+          (more.0, subst (λ (n : ℕ). slice_get (text ∷ texts) n ≡ Some more.0) number more.1, subst (λ (z : List ℕ). bytes ≡ more.0 ++ z) behind more.2)
     ]
 
 -- a text that the bytes begin with is the one that is found

@@ -14,7 +14,7 @@ use Rattle.qz_circ.proofs.RisingLists.{each_weaker}
 use Rattle.qz_paths.proofs.Equivalences.{symmetric}
 use Rattle.qz_subst.proofs.EquivalentInstances.{acts_on_more}
 use Rattle.qz_rewrite.specs.SoundClasses.{IsSoundClass, AreSoundClasses}
-use Rattle.qz_search.specs.PreparedRules.{AreRuleSides}
+use Rattle.qz_search.specs.Classes.{AreRuleSides}
 
 -- what holds of all holds at each number
 pub at_number : {A : Type 0} (P : A → Type 0) (d : A) (xs : List A) (i : ℕ) → AllByRecursion P xs → i < length xs → P (slice_index_or xs i d)

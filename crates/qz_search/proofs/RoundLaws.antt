@@ -1,5 +1,5 @@
 -- The rounds in memory are those of the definition.
-use Rattle.std.proofs.Common.{◌≡◌, ◌≤◌, ◌+◌, ℕ, zero, suc, ◌⊎◌, inl, inr, not, ◌&&◌, nat_le, false, List, [], ◌∷◌, ◌++◌, length, take, drop, Contains, Result, Ok, Err, IfOk, refl, sym, ap, subst, ◌∙◌, arith}
+use Rattle.std.proofs.Common.{◌≡◌, ◌≤◌, ◌+◌, ℕ, zero, suc, ◌⊎◌, inl, inr, Bool, not, ◌&&◌, nat_le, false, List, [], ◌∷◌, ◌++◌, length, take, drop, Contains, Result, Ok, Err, IfOk, refl, sym, ap, subst, ◌∙◌, arith}
 use Rattle.std.specs.List.{AllByRecursion, filter, flat_map}
 use Rattle.std.specs.Ordering.{is_lt}
 use Rattle.qz_circ.specs.ProgramCircuits.{ProgramCircuit, IsProgramGate, IsProgramCircuit, EquivalentProgramCircuits, cost, program_cmp}
@@ -7,10 +7,11 @@ use Rattle.qz_circ.specs.Queue.{QueueList, IsQueue, different, first_cap, firsts
 use Rattle.qz_circ.specs.Search.{PlanNumbers, IsPlan, SearchState, is_among, earliest, start, offered, choice, queue_next, round, after, best_found, IsComplete, IsReached}
 use Rattle.qz_circ.proofs.ProgramOrder.{program_cmp_total, program_cmp_exact}
 use Rattle.qz_paths.proofs.Equivalences.{program_reflexive, program_transitive}
-use Rattle.qz_queue.proofs.DifferentOnes.{Has, has_different, different_has}
+use Rattle.qz_queue.proofs.DifferentOnes.{Has, has_append, has_left, has_right, has_take, has_different, different_has, first_same}
 use Rattle.qz_queue.proofs.QueueLists.{rest_first}
-use Rattle.qz_search.specs.Offers.{is_new, offered_to, IsFit, AreFit, IsAt}
-use Rattle.qz_search.proofs.Members.{among_same, contains_has}
+use Rattle.qz_search.specs.Offers.{is_new, offered_to, IsFit, AreFit, IsAt, KeepsGates}
+use Rattle.qz_search.proofs.Alike.{Alike}
+use Rattle.qz_search.proofs.Members.{among_same, contains_has, has_contains, has_filter, filter_has, has_flat_map, flat_map_has}
 use Rattle.qz_search.proofs.SearchLaws.{best_falls, Holds, after_holds, none_before, after_empty}
 
 pub if_ok_more : {A E : Type 0} (P Q : A → Type 0) (r : Result A E) → ((a : A) → P a → Q a) → IfOk r P → IfOk r Q
@@ -21,10 +22,6 @@ if_ok_more P Q (Err e) f h = h
 pub queue_rest : (q new : QueueList) (k : ℕ) → IsQueue q → new ≡ record { cap = q.cap; list = drop k q.list } → IsQueue new
 queue_rest q new k h e =
     subst IsQueue (sym e) (record { some = h.some; few = h.few; ordered = rest_first q.cap k q.list h.ordered })
-
-pub none_left : {A : Type 0} (cs : List A) → length cs ≡ 0 → cs ≡ []
-none_left [] h = refl
-none_left (c ∷ cs) h = absurd (omega arith)
 
 -- the queue that a search begins with
 first_alone : (n : ℕ) (c : ProgramCircuit) → 1 ≤ n → firsts n (c ∷ []) ≡ c ∷ []
@@ -84,21 +81,18 @@ module _ (children : ProgramCircuit → List ProgramCircuit) (plan : PlanNumbers
       (λ i. is_lt (program_cmp x (e i))) ∙ none_before children plan c complete x (subst (λ d. IsReached children (cost d + plan.slack) c x) e reached)
 
   -- what waits in the queue of a search
-  abbrev pub KeepsGates : Type 0
-  KeepsGates = (y z : ProgramCircuit) → AllByRecursion (IsProgramGate 64) y → Has (children y) z → AllByRecursion (IsProgramGate 64) z
-
-  fit_passes : KeepsGates → IsPlan plan → (y z : ProgramCircuit) → IsFit y → Has (children y) z → cost z ≤ 20000 + plan.slack → IsFit z
-  fit_passes keeps lawful y z fit h cheap = record { gates = keeps y z fit.gates h; short = omega (arith, lawful.near) }
+  fit_passes : KeepsGates children → IsPlan plan → (y z : ProgramCircuit) → IsFit y → Has (children y) z → cost z ≤ 20000 + plan.slack → IsFit z
+  fit_passes keeps lawful y z fit h cheap = record { gates = keeps y z fit.gates (has_contains (children y) z h); short = omega (arith, lawful.near) }
 
   start_holds : (P : ProgramCircuit → Type 0) (most : ℕ) (c : ProgramCircuit) → P c → cost c ≤ most → Holds children plan P most (start c)
   start_holds P most c p h =
       record { waiting = λ k g. elim g [ inl e ↦ subst P e p | inr f ↦ absurd f ]; best = p; cheap = h }
 
-  fit_after : KeepsGates → IsPlan plan → (i : ℕ) (c : ProgramCircuit) → AllByRecursion (IsProgramGate 64) c → length c ≤ 20000 → Holds children plan IsFit 20000 (after children plan i (start c))
+  fit_after : KeepsGates children → IsPlan plan → (i : ℕ) (c : ProgramCircuit) → AllByRecursion (IsProgramGate 64) c → length c ≤ 20000 → Holds children plan IsFit 20000 (after children plan i (start c))
   fit_after keeps lawful i c gates few =
       after_holds children plan IsFit 20000 (fit_passes keeps lawful) i (start c) (start_holds IsFit 20000 c (record { gates = gates; short = omega arith }) few)
 
-  pub waiting_fit : KeepsGates → IsPlan plan → (i : ℕ) (c : ProgramCircuit) (seen : List ProgramCircuit) (q : QueueList) (b : ProgramCircuit) → AllByRecursion (IsProgramGate 64) c → length c ≤ 20000 → IsAt plan (after children plan i (start c)) seen q b
+  pub waiting_fit : KeepsGates children → IsPlan plan → (i : ℕ) (c : ProgramCircuit) (seen : List ProgramCircuit) (q : QueueList) (b : ProgramCircuit) → AllByRecursion (IsProgramGate 64) c → length c ≤ 20000 → IsAt plan (after children plan i (start c)) seen q b
       → AreFit q.list × (length b ≤ 20000)
   waiting_fit keeps lawful i c seen q b gates few at =
       let holds = fit_after keeps lawful i c gates few in (
@@ -117,3 +111,43 @@ module _ (children : ProgramCircuit → List ProgramCircuit) (plan : PlanNumbers
       let first : P c = (lawful, program_reflexive q c) in
       let holds = after_holds children plan P (cost c) step plan.rounds (start c) (start_holds P (cost c) c first (omega arith)) in
       subst P (sym e) holds.best
+
+-- ---- children in another order
+
+module _ (f g : ProgramCircuit → List ProgramCircuit) (plan : PlanNumbers) (alike : Alike f g) where
+  -- what a round offers, by both
+  offers_moved : (test : ProgramCircuit → Bool) (cs rest : List ProgramCircuit) (k : ProgramCircuit) (h i : ProgramCircuit → List ProgramCircuit) → ((c : ProgramCircuit) → Has cs c → (x : ProgramCircuit) → Has (h c) x → Has (i c) x)
+      → Has (rest ++ filter test (flat_map h cs)) k → Has (rest ++ filter test (flat_map i cs)) k
+  offers_moved test cs rest k h i passes m = elim (has_append rest (filter test (flat_map h cs)) k m) [
+    | inl a ↦ has_left rest (filter test (flat_map i cs)) k a
+    | inr a ↦ (let kept = filter_has test k (flat_map h cs) a in
+        let found = flat_map_has h cs k kept.0 in
+        has_right rest (filter test (flat_map i cs)) k (has_filter test k (flat_map i cs) (has_flat_map i cs found.0 k found.1 (passes found.0 found.1 k found.2)) kept.1))
+  ]
+
+  same_queue : (s : SearchState) → ((k : ProgramCircuit) → Has s.queue k → IsFit k) → queue_next f plan s ≡ queue_next g plan s
+  unfolding choice offered
+  same_queue s fit =
+      let taken = take plan.batch s.queue in
+      let test : ProgramCircuit → Bool = λ c. not (is_among (s.seen ++ taken) c) && nat_le (cost c) (cost s.best + plan.slack) in
+      let rest = drop plan.batch s.queue in
+      first_same program_cmp_total program_cmp_exact plan.cap (rest ++ filter test (flat_map f taken)) (rest ++ filter test (flat_map g taken))
+      (λ k m. offers_moved test taken rest k f g (λ c h x n. alike.there c (fit c (has_take plan.batch s.queue c h)).gates x n) m)
+      (λ k m. offers_moved test taken rest k g f (λ c h x n. alike.back c (fit c (has_take plan.batch s.queue c h)).gates x n) m)
+
+  same_round : (s : SearchState) → ((k : ProgramCircuit) → Has s.queue k → IsFit k) → round f plan s ≡ round g plan s
+  same_round s fit =
+      λ i. record { seen = s.seen ++ take plan.batch s.queue; queue = same_queue s fit i; best = earliest s.best (same_queue s fit i) }
+
+  same_after : KeepsGates f → IsPlan plan → (c : ProgramCircuit) → AllByRecursion (IsProgramGate 64) c → length c ≤ 20000 → (n : ℕ) → after f plan n (start c) ≡ after g plan n (start c)
+  same_after keeps lawful c gates few zero = refl
+  same_after keeps lawful c gates few (suc n) =
+      let before = same_after keeps lawful c gates few n in
+      after_more f plan n (start c)
+      ∙ same_round (after f plan n (start c)) (fit_after f plan keeps lawful n c gates few).waiting
+      ∙ ap (round g plan) before
+      ∙ sym (after_more g plan n (start c))
+
+  pub same_found : KeepsGates f → IsPlan plan → (c : ProgramCircuit) → AllByRecursion (IsProgramGate 64) c → length c ≤ 20000 → best_found f plan c ≡ best_found g plan c
+  unfolding best_found
+  same_found keeps lawful c gates few = λ i. (same_after keeps lawful c gates few plan.rounds i).best

@@ -1,5 +1,6 @@
 pub mod PlanFaults
 pub mod Offers
-pub mod PreparedRules
+pub mod Circuits
+pub mod Classes
+pub mod Renamings
 pub mod Tables
-pub mod Sides

@@ -27,3 +27,7 @@ pub record IsAt (plan : PlanNumbers) (s : SearchState) (seen : List ProgramCircu
   pub seen_is : seen ≡ different program_cmp s.seen
   pub queue_is : queue ≡ record { cap = plan.cap; list = s.queue }
   pub best_is : best ≡ s.best
+
+-- what circuits with program gates on 64 qubits become has such gates too
+abbrev pub KeepsGates : (ProgramCircuit → List ProgramCircuit) → Type 0
+KeepsGates children = (y z : ProgramCircuit) → AllByRecursion (IsProgramGate 64) y → Contains (children y) z → AllByRecursion (IsProgramGate 64) z

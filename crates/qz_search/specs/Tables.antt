@@ -1,11 +1,13 @@
--- Rules whose qubits are named in order, and a table of them: left sides with their right sides.
-use Rattle.std.specs.Prelude.{◌≡◌, ◌≤◌, ◌↔◌, ◌⊎◌, ◌++◌, ◌∷◌, [], true, List, length, Contains}
+-- Tables of rules: left sides, each with its right sides, which are given by their numbers among some circuits.
+use Rattle.std.specs.Prelude.{◌≡◌, ℕ, ◌<◌, ◌≤◌, ◌↔◌, ◌⊎◌, ◌++◌, ◌∷◌, [], true, List, length, Contains}
 use Rattle.std.specs.List.{AllByRecursion, flat_map}
 use Rattle.qz_circ.specs.Circuit.{Circuit, IsOn}
 use Rattle.qz_circ.specs.Places.{is_usable}
 use Rattle.qz_circ.specs.ProgramCircuits.{ProgramCircuit, IsProgramGate}
-use Rattle.qz_circ.specs.Replacement.{children_by}
-use Rattle.qz_search.specs.declared.renaming.Rule.{Rule}
+use Rattle.qz_circ.specs.Replacement.{numbered, children_by}
+use Rattle.qz_match.specs.Walks.{IsWalk}
+use Rattle.qz_search.specs.declared.table.Side.{Side}
+use Rattle.qz_search.specs.Circuits.{IsLonger}
 
 -- both sides are circuits of at most 6 gates on three qubits, and the rule is usable
 pub record IsRule (left right : Circuit) : Type 0 where
@@ -15,46 +17,68 @@ pub record IsRule (left right : Circuit) : Type 0 where
   pub right_short : length right ≤ 6
   pub usable : is_usable left right ≡ true
 
--- the new rule is one, and programs become by it what they become by the old one
-pub record IsRenamed (old_left old_right left right : Circuit) : Type 0 where
-  pub rule : IsRule left right
-  pub same : (c : ProgramCircuit) → AllByRecursion (IsProgramGate 64) c → children_by left right c ≡ children_by old_left old_right c
-
--- what a program becomes by these rules
-abbrev pub children_by_rules : List Rule → ProgramCircuit → List ProgramCircuit
-children_by_rules rules c = flat_map (λ rule. children_by rule.left.items rule.right.items c) rules
-
--- what a program becomes by a left side, with each of these right sides
-abbrev pub children_by_rights : Circuit → List Circuit → ProgramCircuit → List ProgramCircuit
-children_by_rights left rights c = flat_map (λ right. children_by left right c) rights
-
--- each is a rule
-abbrev pub AreRules : List Rule → Type 0
-AreRules rules = AllByRecursion (λ rule. IsRule rule.left.items rule.right.items) rules
-
--- programs become by these rules, in order, what they become in this way
-pub record AreRulesOf (rules : List Rule) (children : ProgramCircuit → List ProgramCircuit) : Type 0 where
-  pub each : AreRules rules
-  pub same : (c : ProgramCircuit) → AllByRecursion (IsProgramGate 64) c → children_by_rules rules c ≡ children c
-
 -- programs become the same ones in both ways, in whichever order
 abbrev pub AreAlike : (ProgramCircuit → List ProgramCircuit) → (ProgramCircuit → List ProgramCircuit) → Type 0
 AreAlike f g = (c : ProgramCircuit) → AllByRecursion (IsProgramGate 64) c → (x : ProgramCircuit) → Contains (f c) x ↔ Contains (g c) x
 
--- the last rule, with these sides, is gone
-pub record IsTaken (old new : List Rule) (left right : Circuit) : Type 0 where
-  pub rule : Rule
-  pub left_is : rule.left.items ≡ left
-  pub right_is : rule.right.items ≡ right
-  pub parts : old ≡ new ++ rule ∷ []
+-- what a program becomes by a left side, with the circuit of each of these numbers in its place
+abbrev pub children_by_numbers : List Circuit → Circuit → List ℕ → ProgramCircuit → List ProgramCircuit
+children_by_numbers circuits left rights c = flat_map (λ k. children_by left (numbered circuits k) c) rights
 
--- the circuit is one of the new ones, beside the old
-abbrev pub IsAdded : List Circuit → List Circuit → Circuit → Type 0
-IsAdded old new c = ((new ≡ old) × Contains old c) ⊎ (new ≡ old ++ c ∷ [])
+-- by a left side with its right sides
+abbrev pub children_of : List Circuit → Side → ProgramCircuit → List ProgramCircuit
+children_of circuits side c = children_by_numbers circuits side.left.items side.rights.items c
 
--- rules with this left side may have moved from the rules to the right sides
-pub record AreMoved (left : Circuit) (old_rules new_rules : List Rule) (old_rights new_rights : List Circuit) : Type 0 where
-  pub rules : AreRules old_rules → AreRules new_rules
-  pub rights : AreRules old_rules → AllByRecursion (IsRule left) old_rights → AllByRecursion (IsRule left) new_rights
-  pub alike : AreAlike (λ c. children_by_rules old_rules c ++ children_by_rights left old_rights c) (λ c. children_by_rules new_rules c ++ children_by_rights left new_rights c)
-  pub fewer : length new_rules ≤ length old_rules
+-- and by several
+abbrev pub children_of_all : List Circuit → List Side → ProgramCircuit → List ProgramCircuit
+children_of_all circuits sides c = flat_map (λ side. children_of circuits side c) sides
+
+-- the number is that of a circuit, which is a right side of this left one
+abbrev pub IsRight : List Circuit → Circuit → ℕ → Type 0
+IsRight circuits left k = (k < length circuits) × IsRule left (numbered circuits k)
+
+-- the walk leads through the left side, and the right sides are usable with it
+pub record IsSide (circuits : List Circuit) (side : Side) : Type 0 where
+  pub some : 0 < length side.left.items
+  pub short : length side.left.items ≤ 6
+  pub on : IsOn 3 3 side.left.items
+  pub walk : IsWalk side.left.items side.walk
+  pub rights : AllByRecursion (IsRight circuits side.left.items) side.rights.items
+
+-- programs become by these sides what they become in this way, in whichever order
+pub record IsTable (circuits : List Circuit) (sides : List Side) (children : ProgramCircuit → List ProgramCircuit) : Type 0 where
+  pub each : AllByRecursion (IsSide circuits) sides
+  pub alike : AreAlike (children_of_all circuits sides) children
+
+-- circuits by their numbers, and left sides with the numbers of their right sides
+pub record TableParts : Type 0 where
+  pub circuits : List Circuit
+  pub sides : List Side
+
+-- what a program becomes by one step with the table
+abbrev pub children_by_table : TableParts → ProgramCircuit → List ProgramCircuit
+children_by_table table c = children_of_all table.circuits table.sides c
+
+-- the circuit got a number, which was put behind others, if the rule is usable; else nothing comes by the rule
+pub record IsRightAdded (left right : Circuit) (old new : List Circuit) (before after : List ℕ) : Type 0 where
+  pub longer : IsLonger old new
+  pub added : ((after ≡ before) × ((c : ProgramCircuit) → children_by left right c ≡ [])) ⊎ ((k : ℕ) × (after ≡ before ++ k ∷ []) × (numbered new k ≡ right) × IsRight new left k)
+
+-- the right sides of a left one, with what programs become by them
+pub record AreRights (circuits : List Circuit) (left : Circuit) (rights : List ℕ) (children : ProgramCircuit → List ProgramCircuit) : Type 0 where
+  pub each : AllByRecursion (IsRight circuits left) rights
+  pub same : (c : ProgramCircuit) → AllByRecursion (IsProgramGate 64) c → children_by_numbers circuits left rights c ≡ children c
+
+-- the last side, which has this left side, is gone
+pub record IsTwinTaken (left : Circuit) (rights : List ℕ) (old new : List Side) : Type 0 where
+  pub side : Side
+  pub left_is : side.left.items ≡ left
+  pub rights_are : side.rights.items ≡ rights
+  pub parts : old ≡ new ++ side ∷ []
+
+-- the right sides of some last sides with this left side were put behind others
+pub record AreTwinsTaken (left : Circuit) (before after : List ℕ) (old new : List Side) : Type 0 where
+  pub each : (circuits : List Circuit) → AllByRecursion (IsSide circuits) old → AllByRecursion (IsSide circuits) new
+  pub rights : (circuits : List Circuit) → AllByRecursion (IsSide circuits) old → AllByRecursion (IsRight circuits left) before → AllByRecursion (IsRight circuits left) after
+  pub alike : (circuits : List Circuit) → AreAlike (λ c. children_of_all circuits old c ++ children_by_numbers circuits left before c) (λ c. children_of_all circuits new c ++ children_by_numbers circuits left after c)
+  pub fewer : length new ≤ length old

@@ -5,11 +5,12 @@ ghost use Rattle.qz_circ.specs.Circuit.{IsOn};
 ghost use Rattle.qz_circ.specs.Places.{places};
 ghost use Rattle.qz_circ.specs.ProgramCircuits.{ProgramCircuit, IsProgramGate, cost};
 ghost use Rattle.qz_circ.specs.Queue.{IsQueue};
-ghost use Rattle.qz_circ.specs.Replacement.{replaced, children_by, children};
+ghost use Rattle.qz_circ.specs.Replacement.{replaced, children_by};
 ghost use Rattle.qz_match.specs.Neighbours.{AreNeighboursOf};
 ghost use Rattle.qz_search.specs.Offers.{is_new, offered_to};
-ghost use Rattle.qz_search.specs.Sides.{children_of, IsSide};
+ghost use Rattle.qz_search.specs.Tables.{children_of, children_by_table, IsSide};
 
+use crate::circuits::Circuits;
 use crate::offer::offer_child;
 use crate::prepared::Prepared;
 use crate::table::Side;
@@ -99,6 +100,7 @@ fn offer_side(
     most: u64,
     c: &[Inst],
     neighbours: &Neighbours,
+    circuits: &Circuits,
     side: &Side,
     queue: &mut Queue,
 ) -> Result<(), Memory>
@@ -106,13 +108,14 @@ fn offer_side(
     requires gates { AllByRecursion (IsProgramGate 64) c.now }
     requires short { length c.now ≤ 20004 }
     requires links { AreNeighboursOf c.now neighbours.now }
-    requires side { IsSide side.now }
-    ensures { OnOk result (queue.new ≡ offered_to queue.old (filter (is_new seen.now most) (children_of side.now c.now))) }
+    requires side { IsSide circuits.now side.now }
+    ensures { OnOk result (queue.new ≡ offered_to queue.old (filter (is_new seen.now most) (children_of circuits.now side.now c.now))) }
 {
     let left = side.left.as_slice();
     let found = places_of(alloc, left, &side.walk, c, neighbours)?;
     let rights = side.rights.as_slice();
-    for right in rights {
+    for k in rights {
+        let right = circuits.at(*k);
         offer_right(alloc, seen, most, c, left, right, &found, queue)?;
     }
     Ok(())
@@ -132,12 +135,13 @@ pub(crate) fn offer_children(
     requires lawful { IsQueue queue.old }
     requires gates { AllByRecursion (IsProgramGate 64) c.now }
     requires short { length c.now ≤ 20004 }
-    ensures { OnOk result (queue.new ≡ offered_to queue.old (filter (is_new seen.now most) (children rules.now c.now))) }
+    ensures { OnOk result (queue.new ≡ offered_to queue.old (filter (is_new seen.now most) (children_by_table rules.now c.now))) }
 {
     neighbours.renew(c)?;
+    let circuits = rules.circuits();
     let sides = rules.sides();
     for side in sides {
-        offer_side(alloc, seen, most, c, neighbours, side, queue)?;
+        offer_side(alloc, seen, most, c, neighbours, circuits, side, queue)?;
     }
     Ok(())
 }

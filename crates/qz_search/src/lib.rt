@@ -2,12 +2,15 @@
 #![tactic(auto)]
 
 mod children;
+mod circuits;
+mod class;
 pub mod laws;
 mod offer;
 pub mod plan;
 mod prepared;
 mod renaming;
 pub mod rounds;
+mod rows;
 mod table;
 
 pub use plan::{Plan, PlanFault};

@@ -3,10 +3,10 @@ ghost use Rattle.std.specs.Prelude.{◌≡◌, [], ◌∷◌, ◌++◌, List, On
 ghost use Rattle.std.specs.List.{filter, flat_map};
 ghost use Rattle.qz_circ.specs.ProgramCircuits.{ProgramCircuit, program_cmp};
 ghost use Rattle.qz_circ.specs.Queue.{IsQueue, different};
-ghost use Rattle.qz_circ.specs.Replacement.{children};
 ghost use Rattle.qz_circ.specs.Search.{earliest};
 ghost use Rattle.qz_queue.specs.Circuits.{circuits};
 ghost use Rattle.qz_search.specs.Offers.{is_new, offered_to, AreFit};
+ghost use Rattle.qz_search.specs.Tables.{children_by_table};
 
 use crate::children::offer_children;
 use crate::prepared::Prepared;
@@ -46,7 +46,7 @@ pub(crate) fn offer_batch(
 ) -> Result<(), Memory>
     requires lawful { IsQueue queue.old }
     requires fit { AreFit (circuits batch.now) }
-    ensures { OnOk result (queue.new ≡ offered_to queue.old (filter (is_new seen.now most) (flat_map (children rules.now) (circuits batch.now)))) }
+    ensures { OnOk result (queue.new ≡ offered_to queue.old (filter (is_new seen.now most) (flat_map (children_by_table rules.now) (circuits batch.now)))) }
 {
     let mut neighbours = Neighbours::of(alloc, &[])?;
     for c in batch {

@@ -1,17 +1,18 @@
-//! Rules whose qubits are renamed, so that rules that differ in the names of their qubits alone become one.
+//! Renamings of qubits, so that rules that differ in the names of their qubits alone become one.
 ghost use Rattle.std.specs.Prelude.{◌≡◌, ◌<◌, IfOk};
-ghost use Rattle.qz_rewrite.specs.Renaming.{exchanged, renamed_gate, renamed};
-ghost use Rattle.qz_search.specs.Tables.{IsRule, IsRenamed};
+ghost use Rattle.qz_rewrite.specs.Renaming.{exchanged, renamed_gate};
+ghost use Rattle.qz_search.specs.Renamings.{exchanged_where, gate_by, circuit_by};
 
 use qz_circ::{Memory, Op};
-use qz_match::is_usable;
 use std::alloc::Global;
 
-// A rule: a left side and a right one.
-#[derive(Drop)]
-pub(crate) struct Rule {
-    pub(crate) left: Vec<Op>,
-    pub(crate) right: Vec<Op>,
+// Whether the first two qubits are exchanged, then the last two, and then the first two again. Each order of three comes of
+// this.
+#[derive(Clone, Copy)]
+pub(crate) struct Renaming {
+    first: bool,
+    last: bool,
+    again: bool,
 }
 
 // Qubit s becomes the next one, and that becomes s.
@@ -41,75 +42,80 @@ fn renamed_gate(s: u8, g: Op) -> Op
     }
 }
 
-// The circuit with the two exchanged.
-fn renamed(alloc: Global, s: u8, c: &[Op]) -> Result<Vec<Op>, Memory>
+// The gate with the two exchanged, where that is said.
+fn exchanged_where(said: bool, s: u8, g: Op) -> Op
     requires { s < 2 }
-    ensures { IfOk result (λ out. out.items ≡ renamed s c.now) }
+    ensures { result ≡ exchanged_where said s g }
 {
-    let Ok(room) = Vec::with_capacity(alloc, c.len()) else {
-        return Err(Memory);
-    };
-    let mut out = room;
-    for g in c {
-        if out.push(renamed_gate(s, *g)).is_err() {
-            return Err(Memory);
-        }
-    }
-    Ok(out)
+    if said { renamed_gate(s, g) } else { g }
 }
 
-// The next qubit is on a gate before any that s is on.
-fn is_before(c: &[Op], s: u8) -> bool
-    requires { s < 2 }
-{
-    for g in c {
-        let (first, second) = match *g {
-            Op::H(t) | Op::X(t) | Op::Rz(t, _) => (t, t),
-            Op::Cx(c, t) => (c, t),
+// The qubits of a gate, a control before its target.
+fn operands(g: Op) -> (u8, u8) {
+    match g {
+        Op::H(t) | Op::X(t) | Op::Rz(t, _) => (t, t),
+        Op::Cx(c, t) => (c, t),
+    }
+}
+
+impl Renaming {
+    // That which gives the qubits the names 0, 1 and 2 in the order in which a circuit has them.
+    pub(crate) fn of(c: &[Op]) -> Renaming {
+        let mut names = Renaming {
+            first: false,
+            last: false,
+            again: false,
         };
-        if first == s {
-            return false;
-        }
-        if first == s + 1 {
-            return true;
-        }
-        if second == s {
-            return false;
-        }
-        if second == s + 1 {
-            return true;
-        }
+        names.first = names.is_before(c, 0);
+        names.last = names.is_before(c, 1);
+        names.again = names.is_before(c, 0);
+        names
     }
-    false
-}
 
-// The rule with the two qubits in the order in which its left side has them.
-#[tactic(auto, using(crate::proofs::RenamedRules::rule_kept))]
-fn settle(alloc: Global, s: u8, rule: Rule) -> Result<Rule, Memory>
-    requires few { s < 2 }
-    requires rule { IsRule rule.left.items rule.right.items }
-    ensures { IfOk result (λ r. IsRenamed rule.left.items rule.right.items r.left.items r.right.items) }
-{
-    if !is_before(&rule.left, s) {
-        return Ok(rule);
+    // The gate with its qubits renamed.
+    fn gate(self, g: Op) -> Op
+        ensures { result ≡ gate_by self g }
+    {
+        let first = exchanged_where(self.first, 0, g);
+        let last = exchanged_where(self.last, 1, first);
+        exchanged_where(self.again, 0, last)
     }
-    let other = Rule {
-        left: renamed(alloc, s, &rule.left)?,
-        right: renamed(alloc, s, &rule.right)?,
-    };
-    if !is_usable(&other.left, &other.right) {
-        return Ok(rule);
-    }
-    Ok(other)
-}
 
-// The rule with its qubits in the order in which its left side has them.
-#[tactic(auto, using(crate::proofs::RenamedRules::renamed_twice))]
-pub(crate) fn settled(alloc: Global, rule: Rule) -> Result<Rule, Memory>
-    requires { IsRule rule.left.items rule.right.items }
-    ensures { IfOk result (λ r. IsRenamed rule.left.items rule.right.items r.left.items r.right.items) }
-{
-    let first = settle(alloc, 0, rule)?;
-    let second = settle(alloc, 1, first)?;
-    settle(alloc, 0, second)
+    // Renamed, the circuit has the qubit after s on a gate before any that s is on.
+    fn is_before(self, c: &[Op], s: u8) -> bool
+        requires { s < 2 }
+    {
+        for g in c {
+            let (first, second) = operands(self.gate(*g));
+            if first == s {
+                return false;
+            }
+            if first == s + 1 {
+                return true;
+            }
+            if second == s {
+                return false;
+            }
+            if second == s + 1 {
+                return true;
+            }
+        }
+        false
+    }
+
+    // The circuit with its qubits renamed.
+    pub(crate) fn circuit(self, alloc: Global, c: &[Op]) -> Result<Vec<Op>, Memory>
+        ensures { IfOk result (λ out. out.items ≡ circuit_by self c.now) }
+    {
+        let Ok(room) = Vec::with_capacity(alloc, c.len()) else {
+            return Err(Memory);
+        };
+        let mut out = room;
+        for g in c {
+            if out.push(self.gate(*g)).is_err() {
+                return Err(Memory);
+            }
+        }
+        Ok(out)
+    }
 }

@@ -4,10 +4,10 @@ ghost use Rattle.std.specs.List.{AllByRecursion};
 ghost use Rattle.std.specs.Ordering.{is_lt};
 ghost use Rattle.qz_circ.specs.ProgramCircuits.{ProgramCircuit, IsProgramGate, EquivalentProgramCircuits, cost, program_cmp};
 ghost use Rattle.qz_circ.specs.Queue.{IsQueue};
-ghost use Rattle.qz_circ.specs.Circuit.{IsOn};
 ghost use Rattle.qz_circ.specs.Replacement.{children};
 ghost use Rattle.qz_circ.specs.Search.{SearchState, round, best_found, IsComplete, IsReached};
-ghost use Rattle.qz_search.specs.Offers.{IsAt, AreFit};
+ghost use Rattle.qz_search.specs.Offers.{IsAt, AreFit, KeepsGates};
+ghost use Rattle.qz_search.specs.Tables.{children_by_table};
 
 use crate::offer::{add_all, copy_of, earlier, offer_batch};
 use crate::plan::Plan;
@@ -30,7 +30,7 @@ fn next_round(
     requires lawful { IsQueue queue.old }
     requires fit { AreFit queue.old.list }
     requires short { length best.now ≤ 20000 }
-    ensures { (s : SearchState) → IsAt plan s seen.old queue.old best.now → IfOk result (λ b. IsAt plan (round (children rules.now) plan s) seen.new queue.new b.items) }
+    ensures { (s : SearchState) → IsAt plan s seen.old queue.old best.now → IfOk result (λ b. IsAt plan (round (children_by_table rules.now) plan s) seen.new queue.new b.items) }
 {
     let most = best.len() as u64 + plan.slack();
     let batch = queue.take_batch(plan.batch())?;
@@ -41,10 +41,10 @@ fn next_round(
 
 // The circuit that the search by this plan finds.
 fn run(alloc: Global, rules: &Prepared, c: &[Inst], plan: Plan) -> Result<Vec<Inst>, Memory>
-    requires on { AllByRecursion (AllByRecursion (IsOn 3 3)) rules.now }
+    requires keeps { KeepsGates (children_by_table rules.now) }
     requires gates { AllByRecursion (IsProgramGate 64) c.now }
     requires few { length c.now ≤ 20000 }
-    ensures { IfOk result (λ b. b.items ≡ best_found (children rules.now) plan c.now) }
+    ensures { IfOk result (λ b. b.items ≡ best_found (children_by_table rules.now) plan c.now) }
 {
     let mut seen = Seen::new(alloc);
     let mut queue = Queue::new(alloc, plan.cap())?;

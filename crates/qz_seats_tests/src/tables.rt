@@ -87,7 +87,7 @@ fn in_turn(
     one: &mut Pass<NoValue>,
     two: &mut Pass<NoValue>,
     three: &mut Pass<NoValue>,
-) -> [Option<u64>; 3]
+) -> (Option<u64>, Option<u64>, Option<u64>)
     requires one { IsOf one.old seats.now }
     requires two { IsOf two.old seats.now }
     requires three { IsOf three.old seats.now }
@@ -95,11 +95,13 @@ fn in_turn(
     ensures two { IsOf two.new seats.now × (two.new.view.shares ≡ two.old.view.shares) × (two.new.view.held ≡ two.old.view.held) }
     ensures three { IsOf three.new seats.now × (three.new.view.shares ≡ three.old.view.shares) × (three.new.view.held ≡ three.old.view.held) }
 {
-    [seats.draw(one), seats.draw(two), seats.draw(three)]
+    (seats.draw(one), seats.draw(two), seats.draw(three))
 }
 
-// Three passes draw until each is ended: what they drew, which are ended, and the values of the closed table.
-fn drawn_by_three(alloc: Global) -> Result<([[Option<u64>; 3]; 3], [bool; 3], Vec<NoValue>), Fail> {
+type Turn = (Option<u64>, Option<u64>, Option<u64>);
+
+// Three passes draw until each is ended: what they drew in three turns, whether all are ended, and how many values there are.
+fn drawn_by_three(alloc: Global) -> Result<(Turn, Turn, Turn, bool, usize), Fail> {
     let Ok((seats, mut one)) = Seats::open(alloc, 5, Vec::new(alloc), 3) else {
         return Err(Fail::new("no memory"));
     };
@@ -108,19 +110,20 @@ fn drawn_by_three(alloc: Global) -> Result<([[Option<u64>; 3]; 3], [bool; 3], Ve
     let first = in_turn(&seats, &mut one, &mut two, &mut three);
     let second = in_turn(&seats, &mut one, &mut two, &mut three);
     let third = in_turn(&seats, &mut one, &mut two, &mut three);
-    let ended = [one.ended(), two.ended(), three.ended()];
+    let ended = one.ended() && two.ended() && three.ended();
     seats.join(&mut one, two);
     seats.join(&mut one, three);
-    Ok(([first, second, third], ended, seats.close(one)))
+    let values = seats.close(one);
+    Ok((first, second, third, ended, values.len()))
 }
 
 #[test]
 fn three_passes_draw_each_number_once(rt: HostRuntime) -> Result<(), Fail> {
-    let (drawn, ended, values) = drawn_by_three(rt.alloc())?;
-    assert!(rt; drawn[0] == [Some(0), Some(1), Some(2)]);
-    assert!(rt; drawn[1] == [Some(3), Some(4), None]);
-    assert!(rt; drawn[2] == [None, None, None]);
-    assert!(rt; ended == [true, true, true]);
-    assert!(rt; values.is_empty());
+    let (first, second, third, ended, values) = drawn_by_three(rt.alloc())?;
+    assert!(rt; first == (Some(0), Some(1), Some(2)));
+    assert!(rt; second == (Some(3), Some(4), None));
+    assert!(rt; third == (None, None, None));
+    assert!(rt; ended);
+    assert!(rt; values == 0);
     Ok(())
 }

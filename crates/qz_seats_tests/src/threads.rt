@@ -1,6 +1,5 @@
 //! Passes of one table, on two threads.
 ghost use Rattle.std.specs.Prelude.{◌≡◌, ◌<◌, None, Some, IfSome};
-ghost use Rattle.std.specs.Thread.{IsSync};
 ghost use Rattle.qz_seats.specs.Parts.{IsOf};
 ghost use Rattle.qz_seats.specs.SeatRule.{count_of, IsAt};
 ghost use Rattle.qz_seats.specs.Views.{taking};
@@ -65,11 +64,11 @@ fn put_by_two<R: Threads + Sync>(rt: &R, alloc: Global) -> Result<Option<Vec<Log
     let (one, two) = join(
         rt,
         || -> Option<Pass<Log>>
-            requires { IsSync R.row × IsOf first table.now × (0 < count_of table.now.terms) × (first.view.held ≡ None) }
+            requires { IsOf first table.now × (0 < count_of table.now.terms) × (first.view.held ≡ None) }
             ensures { IfSome result (λ done. IsOf done table.entry.now × (done.view.held ≡ None) × (done.view.shares ≡ first.view.shares)) }
         { work(table, first) },
         || -> Option<Pass<Log>>
-            requires { IsSync R.row × IsOf second table.now × (0 < count_of table.now.terms) × (second.view.held ≡ None) }
+            requires { IsOf second table.now × (0 < count_of table.now.terms) × (second.view.held ≡ None) }
             ensures { IfSome result (λ done. IsOf done table.entry.now × (done.view.held ≡ None) × (done.view.shares ≡ second.view.shares)) }
         { work(table, second) },
     );

@@ -1,10 +1,8 @@
 -- When answers are carried out.
 use Rattle.std.proofs.Common.{◌≡◌, ◌≢◌, ℕ, List, [], Option, Some, None, Result, Ok, Err, IsTrue, true, refl, subst, sym, ap, inl, inr, arith}
 use Rattle.std.specs.Prelude.{◌⊎◌, MatchResult}
-use Rattle.std.specs.Io.KnownBytes.{append_known}
 use Rattle.qz_io.specs.Counts.{Rose}
 use Rattle.qz_io.specs.Files.{Files}
-use Rattle.qz_io.specs.Told.{HasProperPart}
 use Rattle.qz_io.specs.Transfers.{Input}
 use Rattle.qz_top.specs.declared.status.Status.{Status}
 use Rattle.qz_top.specs.declared.status.Status.TheVariants as status
@@ -12,7 +10,7 @@ use Rattle.qz_top.specs.declared.words.Command.{Command}
 use Rattle.qz_top.specs.declared.words.WordFault.{WordFault}
 use Rattle.qz_top.specs.declared.words.WordFault.TheVariants as word_fault
 use Rattle.qz_top.specs.Status.{IsRefusal, IsBeforeInput, WritesNothing}
-use Rattle.qz_top.specs.Answer.{Answer, Given, Output, Storage, Outside, IsTold, AreTold, IsCalm, refused_with, done_with, IsCarriedOut}
+use Rattle.qz_top.specs.Answer.{Answer, Given, Output, Storage, Outside, IsTold, AreTold, IsCalm, refused_with, done_with, IsWritten, IsCarriedOut}
 use Rattle.qz_top.specs.Making.{IsToBeWritten, EndsEarly, EndsUnread}
 use Rattle.qz_top.specs.Run.{status_of_words, CommandAnswers, WordsAnswer}
 use Rattle.qz_top.specs.Words.{command_of}
@@ -99,25 +97,26 @@ still_not_rose (inr last) = absurd (omega (arith, last))
 -- ---- commands
 
 -- a text that is to be written is handed to the output
-pub carried_by_text : (Answers : Given → Answer → Type 0) (text : List ℕ) (s : Status) (outside : Outside) → IsToBeWritten Answers text outside.input outside.shelf →
-    (WritesNothing s → ⊥) → (s ≡ status.Ok → outside.out.written_after ≡ append_known outside.out.written_before text) → (s ≢ status.Ok → HasProperPart outside.out.written_before text outside.out.written_after) →
-    (s ≡ status.WriteFault → Rose outside.out.faults_before outside.out.faults_after) → (IsTrue outside.out.answers_faults → s ≢ status.WriteFault → outside.out.faults_after ≡ outside.out.faults_before) → IsCarriedOut Answers s outside
-carried_by_text Answers text s outside made begun whole part failed answered = record {
-  given = made.given;
-  told = made.told;
-  refused = λ r. absurd (begun (refusal_writes_nothing s r));
-  ok = λ e. record { answer = done_with text made.err; is_answer = made.is_answer; done = refl; whole = whole e };
-  write_fault = λ e. record { answer = done_with text made.err; is_answer = made.is_answer; done = refl; part = part (λ k. cc (e, k)) };
-  memory = λ e. inr (record { answer = done_with text made.err; is_answer = made.is_answer; done = refl; part = part (λ k. cc (e, k)) });
-  read_failed = λ e. absurd (begun (subst WritesNothing (sym e) tt));
-  shelf_failed = λ e. absurd (begun (subst WritesNothing (sym e) tt));
-  write_failed = failed;
-  refuses = λ b h r calm quiet. absurd (refusal_is_not_ok b.status r (made.well b h));
-  complete = λ b h calm quiet still. elim (done_or_memory s begun (λ e. still (failed e))) [ inl e ↦ inl (cc (e, made.well b h)) | inr e ↦ inr e ];
-  read_answered = λ answers k. made.answered answers;
-  shelf_answered = λ answers k. made.shelf_answered answers;
-  write_answered = answered;
-}
+pub carried_by_text : (Answers : Given → Answer → Type 0) (text handed : List ℕ) (s : Status) (outside : Outside) → IsToBeWritten Answers text outside.input outside.shelf →
+    (WritesNothing s → ⊥) → handed ≡ text → IsWritten handed s outside.out → IsCarriedOut Answers s outside
+carried_by_text Answers text handed s outside made begun same written_so =
+    let written : IsWritten text s outside.out = subst (λ (t : List ℕ). IsWritten t s outside.out) same written_so in
+    record {
+      given = made.given;
+      told = made.told;
+      refused = λ r. absurd (begun (refusal_writes_nothing s r));
+      ok = λ e. record { answer = done_with text made.err; is_answer = made.is_answer; done = refl; whole = written.whole e };
+      write_fault = λ e. record { answer = done_with text made.err; is_answer = made.is_answer; done = refl; part = written.part (λ k. cc (e, k)) };
+      memory = λ e. inr (record { answer = done_with text made.err; is_answer = made.is_answer; done = refl; part = written.part (λ k. cc (e, k)) });
+      read_failed = λ e. absurd (begun (subst WritesNothing (sym e) tt));
+      shelf_failed = λ e. absurd (begun (subst WritesNothing (sym e) tt));
+      write_failed = written.failed;
+      refuses = λ b h r calm quiet. absurd (refusal_is_not_ok b.status r (made.well b h));
+      complete = λ b h calm quiet still. elim (done_or_memory s begun (λ e. still (written.failed e))) [ inl e ↦ inl (cc (e, made.well b h)) | inr e ↦ inr e ];
+      read_answered = λ answers k. made.answered answers;
+      shelf_answered = λ answers k. made.shelf_answered answers;
+      write_answered = written.answered;
+    }
 
 -- what ends a command early with a status: where the status comes from, and what it passes over
 pub record Ending (Answers : Given → Answer → Type 0) (s : Status) (input : Input) (shelf : Storage) (given : Given) : Type 0 where
@@ -164,6 +163,21 @@ memory_ends Answers input shelf given told answered shelf_answered =
       answered = λ answers k. answered answers;
       shelf_answered = λ answers k. shelf_answered answers;
     })
+
+-- a command whose answers don't depend on the outside, where neither the input nor the shelf has a fault
+module _ (Answers : Answer → Type 0) (input : Input) (shelf : Storage) (out : Output) (calm : input.faults_after ≡ input.faults_before) (quiet : IsCalm shelf) where
+  abbrev given : (given : Given) × AreTold input shelf given
+  given = some_given input shelf
+
+  -- its text is handed to the output
+  pub carried_alone : (text err handed : List ℕ) (s : Status) → Answers (done_with text err) → ((answer : Answer) → Answers answer → answer.status ≡ status.Ok) →
+      (WritesNothing s → ⊥) → handed ≡ text → IsWritten handed s out → IsCarriedOut (λ _. Answers) s (record { input = input; shelf = shelf; out = out })
+  carried_alone text err handed s is well begun same written =
+      carried_by_text (λ _. Answers) text handed s _ (record { given = given.0; told = given.1; err = err; is_answer = is; well = well; answered = λ _. calm; shelf_answered = λ _. quiet }) begun same written
+
+  -- or memory runs out before
+  pub memory_alone : out.written_after ≡ out.written_before → out.faults_after ≡ out.faults_before → IsCarriedOut (λ _. Answers) status.Memory (record { input = input; shelf = shelf; out = out })
+  memory_alone = (memory_ends (λ _. Answers) input shelf given.0 given.1 (λ _. calm) (λ _. quiet)).carried_out out
 
 -- so it does by a refusal that is the only answer
 pub refusal_ends : (Answers : Given → Answer → Type 0) (s : Status) (input : Input) (shelf : Storage) (given : Given) → AreTold input shelf given → IsRefusal s → Answers given (refused_with s) → ((b : Answer) → Answers given b → b.status ≡ s) →

@@ -1,5 +1,5 @@
 -- The report of a generation, where it is wanted.
-use Rattle.std.proofs.Common.{◌≡◌, ℕ, List, [], Bool, true, false, IsTrue, Option, Some, None, refl, sym, ap, ◌∙◌}
+use Rattle.std.proofs.Common.{◌≡◌, ℕ, List, [], Bool, true, false, IsTrue, Option, Some, None, refl, ap}
 use Rattle.std.specs.Prelude.{IfSome}
 use Rattle.qz_circ.specs.Circuit.{Limits}
 use Rattle.qz_circ.specs.declared.report.Report.{Report}
@@ -7,7 +7,7 @@ use Rattle.qz_repgen.specs.Reports.{IsReport}
 use Rattle.qz_top.specs.declared.status.Status.{Status}
 use Rattle.qz_top.specs.declared.status.Status.TheVariants as status
 use Rattle.qz_top.specs.FaultTexts.{status_text}
-use Rattle.qz_top.specs.Reports.{report_text, IsReportText, IsReportWhere, end_text}
+use Rattle.qz_top.specs.Reports.{report_text, IsReportWhere, end_text}
 
 -- there is such a text
 pub wanted_text : (b : Limits) (seed : ℕ) (wanted : Bool) (report : Report) → IsReport b seed report → (text : List ℕ) × IsReportWhere b seed wanted text

@@ -1,4 +1,3 @@
-pub mod PieceLemmas
 pub mod TellingLemmas
 pub mod AnswerTexts
 pub mod AnswerLemmas

@@ -2,9 +2,7 @@
 use Rattle.std.proofs.Common.{◌≡◌, ℕ, List, [], Option, Result, Ok, Err, subst, sym, ◌∙◌, ap, inl, inr}
 use Rattle.std.specs.Prelude.{◌⊎◌, slice_index_or, MatchResult}
 use Rattle.qz_circ.specs.Search.{PlanNumbers}
-use Rattle.std.specs.Io.KnownBytes.{append_known}
 use Rattle.qz_io.specs.Files.{Files}
-use Rattle.qz_io.specs.Told.{HasPart}
 use Rattle.qz_top.specs.declared.status.Status.{Status}
 use Rattle.qz_top.specs.declared.words.Command.{Command}
 use Rattle.qz_top.specs.declared.words.Command.TheVariants.{Optimise}
@@ -17,9 +15,8 @@ use Rattle.qz_top.specs.Run.{CommandAnswers, CommandNeedsProgram, NeedsProgram, 
 use Rattle.qz_top.specs.Words.{command_of}
 
 -- what is told of a text is told of one that is the same
-pub tells_same : (text told : List ℕ) → text ≡ told → {old new : Option (List ℕ)} {X Y : Type 0} → HasPart old told new → ((X → ⊥) → (Y → ⊥) → new ≡ append_known old told) → Tells text old new (X ⊎ Y)
-tells_same text told same {old} {new} {X} {Y} part whole =
-    subst (λ (t : List ℕ). Tells t old new (X ⊎ Y)) (sym same) (record { part = part; whole = λ calm. whole (λ x. calm (inl x)) (λ y. calm (inr y)) })
+pub tells_same : (text told : List ℕ) → text ≡ told → {old new : Option (List ℕ)} {X : Type 0} → Tells told old new X → Tells text old new X
+tells_same text told same {old} {new} {X} tells = subst (λ (t : List ℕ). Tells t old new X) (sym same) tells
 
 -- words ask for one command
 pub same_command : (words : List (List ℕ)) (command other : Command) → Ok command ≡ command_of words → command_of words ≡ Ok other → command ≡ other

@@ -5,7 +5,10 @@ use Rattle.std.specs.Io.KnownBytes.{append_known}
 use Rattle.qz_io.specs.Counts.{Rose}
 use Rattle.qz_io.specs.Files.{Files}
 use Rattle.qz_io.specs.Told.{HasProperPart}
-use Rattle.qz_io.specs.Transfers.{Input}
+use Rattle.qz_io.specs.Transfers.{Input, source_shown}
+use Rattle.qz_io.specs.declared.shelf.Shelf as shelf
+use Rattle.qz_io.specs.declared.sink.Sink as sink
+use Rattle.qz_io.specs.declared.source.Source as source
 use Rattle.qz_top.specs.declared.status.Status.{Status}
 use Rattle.qz_top.specs.declared.status.Status.TheVariants.{Ok, Memory, ReadFault, WriteFault, ShelfFault}
 use Rattle.qz_top.specs.FaultTexts.{status_text}
@@ -41,9 +44,9 @@ pub record Output : Type 0 where
   pub faults_after : ℕ
   pub answers_faults : Bool
 
--- what a call shows of an output, of which these tell what is written and how often it has failed
-abbrev pub output_of : {S : Type 0} → (S → Option (List ℕ)) → (S → ℕ) → Bool → S → S → Output
-output_of written faults answers_faults before after = record { written_before = written before; written_after = written after; faults_before = faults before; faults_after = faults after; answers_faults = answers_faults }
+-- what a call shows of a sink
+abbrev pub sink_shown : {S : Type 0} → sink.Ghosts S → S → S → Output
+sink_shown told before after = record { written_before = told.written before; written_after = told.written after; faults_before = told.faults before; faults_after = told.faults after; answers_faults = told.answers_faults }
 
 -- what a call shows of a shelf: its files, where it tells them; how often it has failed, before and after; whether each fault is answered
 pub record Storage : Type 0 where
@@ -52,15 +55,20 @@ pub record Storage : Type 0 where
   pub faults_after : ℕ
   pub answers_faults : Bool
 
--- what a call shows of a shelf, of which these tell the files and how often it has failed
-abbrev pub storage_of : {S : Type 0} → (S → Option Files) → (S → ℕ) → Bool → S → S → Storage
-storage_of files faults answers_faults before after = record { files = files before; faults_before = faults before; faults_after = faults after; answers_faults = answers_faults }
+-- what a call shows of a shelf
+abbrev pub shelf_shown : {S : Type 0} → shelf.Ghosts S → S → S → Storage
+shelf_shown told before after = record { files = told.files before; faults_before = told.faults before; faults_after = told.faults after; answers_faults = told.answers_faults }
 
 -- what a call shows of the outside
 pub record Outside : Type 0 where
   pub input : Input
   pub shelf : Storage
   pub out : Output
+
+-- what a call shows of a source, a shelf and a sink
+abbrev pub shown : {I F O : Type 0} → source.Ghosts I → shelf.Ghosts F → sink.Ghosts O → I → I → F → F → O → O → Outside
+shown source_told shelf_told sink_told input_before input_after shelf_before shelf_after out_before out_after =
+    record { input = source_shown source_told input_before input_after; shelf = shelf_shown shelf_told shelf_before shelf_after; out = sink_shown sink_told out_before out_after }
 
 -- what a command is given by the outside: the bytes that the input has left, and the files of the shelf
 pub record Given : Type 0 where
@@ -95,6 +103,13 @@ pub record WritesPart (Answers : Answer → Type 0) (out : Output) : Type 0 wher
   pub is_answer : Answers answer
   pub done : answer.status ≡ Ok
   pub part : HasProperPart out.written_before answer.out out.written_after
+
+-- a text that is written ends with this status: it is written whole, or not all of it, and no fault is passed over
+pub record IsWritten (text : List ℕ) (status : Status) (out : Output) : Type 0 where
+  pub whole : status ≡ Ok → out.written_after ≡ append_known out.written_before text
+  pub part : status ≢ Ok → HasProperPart out.written_before text out.written_after
+  pub failed : status ≡ WriteFault → Rose out.faults_before out.faults_after
+  pub answered : IsTrue out.answers_faults → status ≢ WriteFault → out.faults_after ≡ out.faults_before
 
 -- A command with these answers to what it is given ends with this status. Where the outside does not tell what it gives,
 -- the command is carried out as for something that may have been given.

@@ -1,8 +1,8 @@
 //! The command that generates the rules of some bounds.
-ghost use Rattle.std.specs.Prelude.{◌≡◌, ◌≢◌, ◌≤◌, IsTrue, Option, None, IfOk, IfSome};
+ghost use Rattle.std.specs.Prelude.{◌≡◌, ◌≢◌, ◌≤◌, IsTrue, None, IfOk, IfSome};
 ghost use Rattle.qz_io.specs.Transfers.{Input};
 ghost use Rattle.qz_repgen.specs.Reports.{IsReport};
-ghost use Rattle.qz_top.specs.Answer.{Storage, IsCalm, output_of, IsCarriedOut};
+ghost use Rattle.qz_top.specs.Answer.{Storage, IsCalm, sink_shown, IsCarriedOut};
 ghost use Rattle.qz_top.specs.Generate.{Generates, IsCompleteRules, WritesCompleteRules};
 ghost use Rattle.qz_top.specs.Reports.{IsReportWhere, end_text};
 ghost use Rattle.qz_top.specs.Status.{WritesNothing};
@@ -48,7 +48,7 @@ pub(crate) fn generate<O: Sink>(
 ) -> (Status, Option<Report>)
     // Whatever the input and the shelf are, as long as they have no fault.
     ensures carried_out { (input : Input) (shelf : Storage) → input.faults_after ≡ input.faults_before → IsCalm shelf → IsCarriedOut (λ given. Generates b seed report) result.0
-        (record { input = input; shelf = shelf; out = output_of O.written O.faults O.answers_faults out.old out.new }) }
+        (record { input = input; shelf = shelf; out = sink_shown O.Sink out.old out.new }) }
     ensures begun { WritesNothing result.0 → ⊥ }
     ensures rules { result.0 ≡ Status.Ok → WritesCompleteRules b (O.written out.old) (O.written out.new) }
     ensures report { result.0 ≡ Status.Ok → IsReportWhere b seed report (end_text result.0 result.1) }

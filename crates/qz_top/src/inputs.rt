@@ -4,7 +4,7 @@ ghost use Rattle.std.specs.Io.KnownBytes.{IsAtEnd};
 ghost use Rattle.qz_circ.specs.Grammar.{program_of};
 ghost use Rattle.qz_circ.specs.ValidPrograms.{Valid};
 ghost use Rattle.qz_io.specs.Told.{TakesBytes};
-ghost use Rattle.qz_io.specs.Transfers.{input_of};
+ghost use Rattle.qz_io.specs.Transfers.{source_shown};
 ghost use Rattle.qz_top.specs.Inputs.{most_input_bytes, status_of_fault, status_of_unread};
 ghost use Rattle.qz_top.specs.Making.{IsProgramRead, RefusesBytes, EndsByInput};
 
@@ -54,8 +54,8 @@ fn program_of(alloc: Global, bytes: &[u8]) -> Result<Program, Status>
 
 // Reads the input to its end, and gives its program; or the status that a command ends with before it has it.
 pub(crate) fn program_in<I: Source>(alloc: Global, input: &mut I) -> Result<Program, Status>
-    ensures read { let shown = input_of I.left I.faults I.answers_faults input.old input.new in
-        MatchResult result (λ program. IsProgramRead program shown) (λ status. EndsByInput status shown) }
+    ensures read { let seen = source_shown I.Source input.old input.new in
+        MatchResult result (λ program. IsProgramRead program seen) (λ status. EndsByInput status seen) }
     ensures valid { IfOk result Valid }
     ensures at_end { OnOk result (IsAtEnd (I.left input.new)) }
     ensures taken { TakesBytes (I.left input.old) (I.left input.new) (λ n. n ≤ most_input_bytes + 1) }

@@ -1,15 +1,15 @@
 //! The commands of quartz: from a list of words and an input to a status and what is written.
 #![tactic(auto)]
 
-pub mod generate;
+mod generate;
 mod inputs;
 mod optimise;
 mod pieces;
 pub mod run;
 pub mod status;
 pub mod telling;
-pub mod tidy;
-pub mod trial;
+mod tidy;
+mod trial;
 pub mod words;
 mod writing;
 

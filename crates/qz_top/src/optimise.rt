@@ -6,8 +6,8 @@ ghost use Rattle.qz_circ.specs.Search.{PlanNumbers};
 ghost use Rattle.qz_circ.specs.declared.fault.RuleFault.{RuleFault};
 ghost use Rattle.qz_circ.specs.ValidPrograms.{Valid};
 ghost use Rattle.qz_io.specs.Told.{TakesBytes};
-ghost use Rattle.qz_io.specs.Transfers.{input_of};
-ghost use Rattle.qz_top.specs.Answer.{Storage, storage_of, output_of, IsCarriedOut};
+ghost use Rattle.qz_io.specs.Transfers.{source_shown};
+ghost use Rattle.qz_top.specs.Answer.{Storage, shelf_shown, shown, IsCarriedOut};
 ghost use Rattle.qz_top.specs.Inputs.{most_input_bytes};
 ghost use Rattle.qz_top.specs.Making.{EndsEarly, EndsUnread, IsOpened, AreRulesRead, HasRules, IsMadeOfInput, EndsByInput};
 ghost use Rattle.qz_top.specs.Optimise.{most_rule_bytes, status_of_rule_fault, status_of_unread_file, status_of_opening, Optimises, TellsFile, TakesRuleFile, TakesFileForRules};
@@ -75,8 +75,8 @@ fn rules_in_open_file<F: Shelf>(alloc: Global, shelf: &mut F) -> Result<Rules, S
     requires { IsTrue (F.is_open shelf.old) }
     // Whatever name it was opened by, and whatever the plan is.
     ensures made { (name : List ℕ) (plan : PlanNumbers) (opened : Storage) → IsOpened name (F.rest shelf.old) opened → opened.faults_after ≡ F.faults shelf.old → opened.answers_faults ≡ F.answers_faults →
-        let shown : Storage = record { files = opened.files; faults_before = opened.faults_before; faults_after = F.faults shelf.new; answers_faults = F.answers_faults } in
-        MatchResult result (λ rules. AreRulesRead name rules shown) (λ status. EndsUnread (Optimises name plan) status shown) }
+        let after = record opened { faults_after = F.faults shelf.new; answers_faults = F.answers_faults } in
+        MatchResult result (λ rules. AreRulesRead name rules after) (λ status. EndsUnread (Optimises name plan) status after) }
     ensures at_end { OnOk result (IsAtEnd (F.rest shelf.new)) }
     ensures taken { TakesBytes (F.rest shelf.old) (F.rest shelf.new) (λ n. n ≤ most_rule_bytes + 1) }
     ensures within { result ≢ Err (Status.Limit Which.RuleBytes) → TakesBytes (F.rest shelf.old) (F.rest shelf.new) (λ n. n ≤ most_rule_bytes) }
@@ -92,8 +92,8 @@ fn rules_in_open_file<F: Shelf>(alloc: Global, shelf: &mut F) -> Result<Rules, S
 // Reads the rules in the file with this name; or gives the status that the command ends with before it has them.
 fn rules_in<F: Shelf>(alloc: Global, name: &str, shelf: &mut F) -> Result<Rules, Status>
     // Whatever the plan is.
-    ensures made { (plan : PlanNumbers) → let shown = storage_of F.files F.faults F.answers_faults shelf.old shelf.new in
-        MatchResult result (λ rules. AreRulesRead name.now rules shown) (λ status. EndsUnread (Optimises name.now plan) status shown) }
+    ensures made { (plan : PlanNumbers) → let storage = shelf_shown F.Shelf shelf.old shelf.new in
+        MatchResult result (λ rules. AreRulesRead name.now rules storage) (λ status. EndsUnread (Optimises name.now plan) status storage) }
     ensures file_at_end { OnOk result (IsAtEnd (F.rest shelf.new)) }
     ensures file_taken { (file : List ℕ) → TellsFile (F.files shelf.old) name.now file → TakesFileForRules file (F.rest shelf.old) (F.rest shelf.new) result }
     ensures files { F.files shelf.new ≡ F.files shelf.old }
@@ -133,8 +133,8 @@ fn optimised_input<I: Source>(
     plan: Plan,
     input: &mut I,
 ) -> Result<Vec<u8>, Status>
-    ensures made { let shown = input_of I.left I.faults I.answers_faults input.old input.new in
-        MatchResult result (λ text. IsMadeOfInput (λ program. IsOptimised rules.now plan program text.items) shown) (λ status. EndsByInput status shown) }
+    ensures made { let seen = source_shown I.Source input.old input.new in
+        MatchResult result (λ text. IsMadeOfInput (λ program. IsOptimised rules.now plan program text.items) seen) (λ status. EndsByInput status seen) }
     ensures at_end { OnOk result (IsAtEnd (I.left input.new)) }
     ensures taken { TakesBytes (I.left input.old) (I.left input.new) (λ n. n ≤ most_input_bytes + 1) }
     ensures within { result ≢ Err (Status.Limit Which.InputBytes) → TakesBytes (I.left input.old) (I.left input.new) (λ n. n ≤ most_input_bytes) }
@@ -154,15 +154,15 @@ fn optimised_by<I: Source, F: Shelf>(
     input: &mut I,
     shelf: &mut F,
 ) -> Result<Vec<u8>, Status>
-    ensures made { let input_shown = input_of I.left I.faults I.answers_faults input.old input.new in
-        let shelf_shown = storage_of F.files F.faults F.answers_faults shelf.old shelf.new in
-        MatchResult result (λ text. IsOptimisedBy name.now plan text.items input_shown shelf_shown) (λ status. EndsEarly (Optimises name.now plan) status input_shown shelf_shown) }
+    ensures made { let seen = source_shown I.Source input.old input.new in
+        let storage = shelf_shown F.Shelf shelf.old shelf.new in
+        MatchResult result (λ text. IsOptimisedBy name.now plan text.items seen storage) (λ status. EndsEarly (Optimises name.now plan) status seen storage) }
     ensures at_end { OnOk result (IsAtEnd (I.left input.new)) }
     ensures taken { TakesBytes (I.left input.old) (I.left input.new) (λ n. n ≤ most_input_bytes + 1) }
     ensures within { result ≢ Err (Status.Limit Which.InputBytes) → TakesBytes (I.left input.old) (I.left input.new) (λ n. n ≤ most_input_bytes) }
-    ensures unread { (input.new ≡ input.old) ⊎ HasRules name.now (storage_of F.files F.faults F.answers_faults shelf.old shelf.new) }
+    ensures unread { (input.new ≡ input.old) ⊎ HasRules name.now (shelf_shown F.Shelf shelf.old shelf.new) }
     ensures before { IfErr result (λ status. IsBeforeInput status → input.new ≡ input.old) }
-    ensures read_fault { result ≡ Err Status.ReadFault → HasRules name.now (storage_of F.files F.faults F.answers_faults shelf.old shelf.new) }
+    ensures read_fault { result ≡ Err Status.ReadFault → HasRules name.now (shelf_shown F.Shelf shelf.old shelf.new) }
     ensures file_at_end { OnOk result (IsAtEnd (F.rest shelf.new)) }
     ensures file_taken { (file : List ℕ) → TellsFile (F.files shelf.old) name.now file → TakesFileForRules file (F.rest shelf.old) (F.rest shelf.new) result }
     ensures files { F.files shelf.new ≡ F.files shelf.old }
@@ -186,15 +186,15 @@ pub(crate) fn optimise<I: Source, F: Shelf, O: Sink>(
     out: &mut O,
 ) -> Status
     ensures carried_out { IsCarriedOut (Optimises name.now plan) result
-        (record { input = input_of I.left I.faults I.answers_faults input.old input.new; shelf = storage_of F.files F.faults F.answers_faults shelf.old shelf.new; out = output_of O.written O.faults O.answers_faults out.old out.new }) }
+        (shown I.Source F.Shelf O.Sink input.old input.new shelf.old shelf.new out.old out.new) }
     ensures optimised { result ≡ Status.Ok → WritesOptimised name.now plan
-        (record { input = input_of I.left I.faults I.answers_faults input.old input.new; shelf = storage_of F.files F.faults F.answers_faults shelf.old shelf.new; out = output_of O.written O.faults O.answers_faults out.old out.new }) }
+        (shown I.Source F.Shelf O.Sink input.old input.new shelf.old shelf.new out.old out.new) }
     ensures at_end { result ≡ Status.Ok → IsAtEnd (I.left input.new) }
     ensures taken { TakesBytes (I.left input.old) (I.left input.new) (λ n. n ≤ most_input_bytes + 1) }
     ensures within { result ≢ Status.Limit Which.InputBytes → TakesBytes (I.left input.old) (I.left input.new) (λ n. n ≤ most_input_bytes) }
-    ensures unread { (input.new ≡ input.old) ⊎ HasRules name.now (storage_of F.files F.faults F.answers_faults shelf.old shelf.new) }
+    ensures unread { (input.new ≡ input.old) ⊎ HasRules name.now (shelf_shown F.Shelf shelf.old shelf.new) }
     ensures before { IsBeforeInput result → input.new ≡ input.old }
-    ensures read_fault { result ≡ Status.ReadFault → HasRules name.now (storage_of F.files F.faults F.answers_faults shelf.old shelf.new) }
+    ensures read_fault { result ≡ Status.ReadFault → HasRules name.now (shelf_shown F.Shelf shelf.old shelf.new) }
     ensures untouched { WritesNothing result → out.new ≡ out.old }
     ensures file_at_end { result ≡ Status.Ok → IsAtEnd (F.rest shelf.new) }
     ensures file_taken { (file : List ℕ) → TellsFile (F.files shelf.old) name.now file → TakesRuleFile file (F.rest shelf.old) (F.rest shelf.new) result }

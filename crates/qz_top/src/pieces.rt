@@ -1,13 +1,14 @@
-//! Texts that are made of pieces and written without memory, one piece after another.
-ghost use Rattle.std.specs.Prelude.{◌≡◌, ◌≤◌, OnOk, OnErr};
+//! Texts for the error stream, put together of pieces without memory, so that each goes there by one write.
+ghost use Rattle.std.specs.Prelude.{◌≡◌, ◌+◌, ◌≤◌, ◌++◌, length};
 ghost use Rattle.std.specs.Fmt.{decimal};
-ghost use Rattle.std.specs.Io.KnownBytes.{append_known};
-ghost use Rattle.qz_io.specs.Counts.{Rose};
-ghost use Rattle.qz_io.specs.Told.{HasProperPart};
-ghost use Rattle.qz_top.specs.Pieces.{piece_text, pieces_text};
+ghost use Rattle.arrayvec.specs.ArrayString.{array_string_len};
+ghost use Rattle.qz_top.specs.Pieces.{piece_text, pieces_text, piece_room, pieces_room};
 
+use arrayvec::ArrayString;
 use itoa::Buffer;
-use qz_io::{IoFault, Sink, deliver};
+
+// A text of at most 160 bytes. The longest one is that of a report, with 142 bytes where each number has twenty digits.
+pub(crate) type ShortText = ArrayString<160>;
 
 // A piece of a text.
 #[derive(Clone, Copy)]
@@ -18,48 +19,44 @@ pub(crate) enum Piece<'a> {
     Number(u64),
 }
 
-// Writes the whole number in decimal. After an error a prefix of it is written, which is not the whole of it.
-fn deliver_number<O: Sink>(number: u64, out: &mut O) -> Result<(), IoFault>
-    ensures whole { OnOk result (O.written out.new ≡ append_known (O.written out.old) (decimal number)) }
-    ensures part { OnErr result (HasProperPart (O.written out.old) (decimal number) (O.written out.new)) }
-    ensures failed { result ≡ Err IoFault.Failed → Rose (O.faults out.old) (O.faults out.new) }
-    ensures memory { result ≡ Err IoFault.Memory → Rose (O.wants out.old) (O.wants out.new) }
-    ensures faults { O.faults out.old ≤ O.faults out.new }
-    ensures wants { O.wants out.old ≤ O.wants out.new }
+// Appends a text that fits.
+fn append(whole: &mut ShortText, text: &str)
+    requires { array_string_len whole.old + length text.now ≤ 160 }
+    ensures { whole.new.bytes ≡ whole.old.bytes ++ text.now }
+{
+    let _ = whole.try_push_str(text);
+}
+
+// Appends a number, of at most twenty digits.
+fn append_number(whole: &mut ShortText, number: u64)
+    requires { array_string_len whole.old + 20 ≤ 160 }
+    ensures text { whole.new.bytes ≡ whole.old.bytes ++ decimal number }
+    ensures room { array_string_len whole.new ≤ array_string_len whole.old + 20 }
 {
     let mut buffer = Buffer::new();
-    deliver(buffer.format(number).as_bytes(), out)
+    append(whole, buffer.format(number));
 }
 
-// Writes the whole piece. After an error a prefix of it is written, which is not the whole of it.
-fn deliver_piece<O: Sink>(piece: &Piece<'_>, out: &mut O) -> Result<(), IoFault>
-    ensures whole { OnOk result (O.written out.new ≡ append_known (O.written out.old) (piece_text piece.now)) }
-    ensures part { OnErr result (HasProperPart (O.written out.old) (piece_text piece.now) (O.written out.new)) }
-    ensures failed { result ≡ Err IoFault.Failed → Rose (O.faults out.old) (O.faults out.new) }
-    ensures memory { result ≡ Err IoFault.Memory → Rose (O.wants out.old) (O.wants out.new) }
-    ensures faults { O.faults out.old ≤ O.faults out.new }
-    ensures wants { O.wants out.old ≤ O.wants out.new }
+// Appends a piece.
+fn append_piece(whole: &mut ShortText, piece: &Piece<'_>)
+    requires { array_string_len whole.old + piece_room piece.now ≤ 160 }
+    ensures text { whole.new.bytes ≡ whole.old.bytes ++ piece_text piece.now }
+    ensures room { array_string_len whole.new ≤ array_string_len whole.old + piece_room piece.now }
 {
     match piece {
-        Piece::Text(text) => deliver(text.as_bytes(), out),
-        Piece::Number(number) => deliver_number(*number, out),
+        Piece::Text(text) => append(whole, text),
+        Piece::Number(number) => append_number(whole, *number),
     }
 }
 
-// Writes all pieces, one after another. After an error a prefix of their text is written, which is not the whole text.
-pub(crate) fn deliver_pieces<O: Sink>(pieces: &[Piece<'_>], out: &mut O) -> Result<(), IoFault>
-    ensures whole { OnOk result (O.written out.new ≡ append_known (O.written out.old) (pieces_text pieces.now)) }
-    ensures part { OnErr result (HasProperPart (O.written out.old) (pieces_text pieces.now) (O.written out.new)) }
-    ensures failed { result ≡ Err IoFault.Failed → Rose (O.faults out.old) (O.faults out.new) }
-    ensures memory { result ≡ Err IoFault.Memory → Rose (O.wants out.old) (O.wants out.new) }
-    ensures faults { O.faults out.old ≤ O.faults out.new }
-    ensures wants { O.wants out.old ≤ O.wants out.new }
+// The text of all pieces, one after another.
+pub(crate) fn joined(pieces: &[Piece<'_>]) -> ShortText
+    requires { pieces_room pieces.now ≤ 160 }
+    ensures { result.bytes ≡ pieces_text pieces.now }
 {
+    let mut whole = ShortText::new();
     for piece in pieces {
-        match deliver_piece(piece, out) {
-            Ok(()) => {}
-            Err(fault) => return Err(fault),
-        }
+        append_piece(&mut whole, piece);
     }
-    Ok(())
+    whole
 }

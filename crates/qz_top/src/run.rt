@@ -6,8 +6,7 @@ ghost use Rattle.qz_circ.specs.declared.fault.Which.TheVariants.{InputBytes};
 ghost use Rattle.qz_circ.specs.Search.{PlanNumbers};
 ghost use Rattle.qz_io.specs.Counts.{Rose};
 ghost use Rattle.qz_io.specs.Told.{TakesBytes};
-ghost use Rattle.qz_io.specs.Transfers.{input_of};
-ghost use Rattle.qz_top.specs.Answer.{Answer, Given, storage_of, output_of, IsCarriedOut};
+ghost use Rattle.qz_top.specs.Answer.{Answer, Given, shelf_shown, shown, IsCarriedOut};
 ghost use Rattle.qz_top.specs.FaultTexts.{status_text};
 ghost use Rattle.qz_top.specs.Generate.{WritesCompleteRules};
 ghost use Rattle.qz_top.specs.Inputs.{most_input_bytes};
@@ -51,15 +50,15 @@ fn carry_out<I: Source, F: Shelf, O: Sink>(
     requires within { (k : ℕ) (plan : PlanNumbers) (workers : ℕ) → command ≡ Command.Optimise k plan workers → k < length words.now }
     requires lawful { IsLawfulCommand command }
     ensures carried_out { IsCarriedOut (CommandAnswers (map string_bytes words.now) command) result.0
-        (record { input = input_of I.left I.faults I.answers_faults input.old input.new; shelf = storage_of F.files F.faults F.answers_faults shelf.old shelf.new; out = output_of O.written O.faults O.answers_faults out.old out.new }) }
+        (shown I.Source F.Shelf O.Sink input.old input.new shelf.old shelf.new out.old out.new) }
     ensures rules { (b : Limits) (workers seed : ℕ) (report : Bool) → command ≡ Command.Generate b workers seed report → result.0 ≡ Status.Ok → WritesCompleteRules b (O.written out.old) (O.written out.new) }
     ensures optimised { (k : ℕ) (plan : PlanNumbers) (workers : ℕ) → command ≡ Command.Optimise k plan workers → result.0 ≡ Status.Ok → WritesOptimised (slice_index_or (map string_bytes words.now) k []) plan
-        (record { input = input_of I.left I.faults I.answers_faults input.old input.new; shelf = storage_of F.files F.faults F.answers_faults shelf.old shelf.new; out = output_of O.written O.faults O.answers_faults out.old out.new }) }
-    ensures read_fault { result.0 ≡ Status.ReadFault → CommandNeedsProgram (map string_bytes words.now) command (storage_of F.files F.faults F.answers_faults shelf.old shelf.new) }
+        (shown I.Source F.Shelf O.Sink input.old input.new shelf.old shelf.new out.old out.new) }
+    ensures read_fault { result.0 ≡ Status.ReadFault → CommandNeedsProgram (map string_bytes words.now) command (shelf_shown F.Shelf shelf.old shelf.new) }
     ensures at_end { IsOfProgram command → result.0 ≡ Status.Ok → IsAtEnd (I.left input.new) }
     ensures taken { TakesBytes (I.left input.old) (I.left input.new) (λ n. n ≤ most_input_bytes + 1) }
     ensures within { result.0 ≢ Status.Limit InputBytes → TakesBytes (I.left input.old) (I.left input.new) (λ n. n ≤ most_input_bytes) }
-    ensures unread { (input.new ≡ input.old) ⊎ CommandNeedsProgram (map string_bytes words.now) command (storage_of F.files F.faults F.answers_faults shelf.old shelf.new) }
+    ensures unread { (input.new ≡ input.old) ⊎ CommandNeedsProgram (map string_bytes words.now) command (shelf_shown F.Shelf shelf.old shelf.new) }
     ensures before { IsBeforeInput result.0 → input.new ≡ input.old }
     ensures untouched { WritesNothing result.0 → out.new ≡ out.old }
     ensures shelf_fault { result.0 ≡ Status.ShelfFault → (k : ℕ) × (plan : PlanNumbers) × (workers : ℕ) × (command ≡ Command.Optimise k plan workers) }
@@ -105,11 +104,7 @@ pub fn run_solo<I: Source, F: Shelf, O: Sink, E: Sink>(
     err: &mut E,
 ) -> Status
     ensures carried_out { IsCarriedOut (WordsAnswer (map string_bytes words.now)) result
-        (record {
-          input = input_of I.left I.faults I.answers_faults input.old input.new;
-          shelf = storage_of F.files F.faults F.answers_faults shelf.old shelf.new;
-          out = output_of O.written O.faults O.answers_faults out.old out.new;
-        }) }
+        (shown I.Source F.Shelf O.Sink input.old input.new shelf.old shelf.new out.old out.new) }
 
     // What `generate` writes is the class list of its limits, which joins any two equivalent circuits within them, whatever the
     // workers and the seed are.
@@ -120,11 +115,7 @@ pub fn run_solo<I: Source, F: Shelf, O: Sink, E: Sink>(
     // the program's own and has no more gates. The plan of the search is that of the words, whatever the workers are.
     ensures optimised { (k : ℕ) (plan : PlanNumbers) (workers : ℕ) → command_of (map string_bytes words.now) ≡ Ok (Command.Optimise k plan workers) → result ≡ Status.Ok
         → WritesOptimised (slice_index_or (map string_bytes words.now) k []) plan
-        (record {
-          input = input_of I.left I.faults I.answers_faults input.old input.new;
-          shelf = storage_of F.files F.faults F.answers_faults shelf.old shelf.new;
-          out = output_of O.written O.faults O.answers_faults out.old out.new;
-        }) }
+        (shown I.Source F.Shelf O.Sink input.old input.new shelf.old shelf.new out.old out.new) }
 
     // Words are refused without memory, whatever the outside is. Nothing is written at a refusal, at a read fault or at a fault of the shelf.
     ensures words { (fault : WordFault) → command_of (map string_bytes words.now) ≡ Err fault → result ≡ status_of_words fault }
@@ -132,12 +123,12 @@ pub fn run_solo<I: Source, F: Shelf, O: Sink, E: Sink>(
 
     // The input is as it was, unless the command needs a program and all before it is passed. It is read at most to one byte past
     // its limit, which is then told, and to its end where such a command is done.
-    ensures unread { (input.new ≡ input.old) ⊎ NeedsProgram (map string_bytes words.now) (storage_of F.files F.faults F.answers_faults shelf.old shelf.new) }
+    ensures unread { (input.new ≡ input.old) ⊎ NeedsProgram (map string_bytes words.now) (shelf_shown F.Shelf shelf.old shelf.new) }
     ensures before { IsBeforeInput result → input.new ≡ input.old }
     ensures taken { TakesBytes (I.left input.old) (I.left input.new) (λ n. n ≤ most_input_bytes + 1) }
     ensures within { result ≢ Status.Limit InputBytes → TakesBytes (I.left input.old) (I.left input.new) (λ n. n ≤ most_input_bytes) }
     ensures at_end { AsksOfProgram (map string_bytes words.now) → result ≡ Status.Ok → IsAtEnd (I.left input.new) }
-    ensures read_fault { result ≡ Status.ReadFault → NeedsProgram (map string_bytes words.now) (storage_of F.files F.faults F.answers_faults shelf.old shelf.new) }
+    ensures read_fault { result ≡ Status.ReadFault → NeedsProgram (map string_bytes words.now) (shelf_shown F.Shelf shelf.old shelf.new) }
 
     // Only `optimise` opens a file of the shelf. No command changes the files.
     ensures unopened { ((k : ℕ) (plan : PlanNumbers) (workers : ℕ) → command_of (map string_bytes words.now) ≢ Ok (Command.Optimise k plan workers)) → shelf.new ≡ shelf.old }

@@ -1,20 +1,20 @@
-//! The texts that go to the error stream.
-ghost use Rattle.std.specs.Prelude.{◌≡◌, ◌≤◌, None, OnOk, OnErr};
-ghost use Rattle.std.specs.Io.KnownBytes.{append_known};
+//! The texts that go to the error stream, each of which goes there by one write.
+ghost use Rattle.std.specs.Prelude.{◌≡◌, ◌≤◌, ◌⊎◌, [], None, length};
 ghost use Rattle.qz_io.specs.Counts.{Rose};
-ghost use Rattle.qz_io.specs.Told.{HasPart, HasProperPart};
-ghost use Rattle.qz_top.specs.Reports.{report_text, end_text};
 ghost use Rattle.qz_top.specs.FaultTexts.{which_name, lex_kind, angle_kind, fault_kind, lex_place, angle_place, fault_place, status_text};
+ghost use Rattle.qz_top.specs.Reports.{report_text, end_text};
+ghost use Rattle.qz_top.specs.Run.{Tells};
 
 use crate::pieces::Piece::{Number, Text};
-use crate::pieces::deliver_pieces;
+use crate::pieces::{ShortText, joined};
 use crate::status::Status;
 use qz_circ::{AngleFault, LexFault, QasmFault, Report, Which};
-use qz_io::{IoFault, Sink};
+use qz_io::{Sink, deliver};
 
 // The name of a limit.
 fn which_name(which: Which) -> &'static str
-    ensures { result.now ≡ which_name which }
+    ensures name { result.now ≡ which_name which }
+    ensures short { length result.now ≤ 20 }
 {
     match which {
         Which::BoundsQubits => "bounds-qubits",
@@ -39,7 +39,8 @@ fn which_name(which: Which) -> &'static str
 
 // What kind of fault it is that a text can't be cut into tokens.
 fn lex_kind(fault: LexFault) -> &'static str
-    ensures { result.now ≡ lex_kind fault }
+    ensures name { result.now ≡ lex_kind fault }
+    ensures short { length result.now ≤ 20 }
 {
     match fault {
         LexFault::BadByte { .. } => "BadByte",
@@ -51,7 +52,8 @@ fn lex_kind(fault: LexFault) -> &'static str
 
 // What kind of fault it is that tokens are no angle.
 fn angle_kind(fault: AngleFault) -> &'static str
-    ensures { result.now ≡ angle_kind fault }
+    ensures name { result.now ≡ angle_kind fault }
+    ensures short { length result.now ≤ 20 }
 {
     match fault {
         AngleFault::Form { .. } => "AngleForm",
@@ -65,7 +67,8 @@ fn angle_kind(fault: AngleFault) -> &'static str
 
 // What kind of fault a program has.
 fn fault_kind(fault: QasmFault) -> &'static str
-    ensures { result.now ≡ fault_kind fault }
+    ensures name { result.now ≡ fault_kind fault }
+    ensures short { length result.now ≤ 20 }
 {
     match fault {
         QasmFault::Lex(fault) => lex_kind(fault),
@@ -129,104 +132,95 @@ fn fault_place(fault: QasmFault) -> u64
     }
 }
 
-// Writes the whole text of a status. After an error a prefix of it is written, which is not the whole text.
-fn deliver_status<E: Sink>(status: Status, err: &mut E) -> Result<(), IoFault>
-    ensures whole { OnOk result (E.written err.new ≡ append_known (E.written err.old) (status_text status)) }
-    ensures part { OnErr result (HasProperPart (E.written err.old) (status_text status) (E.written err.new)) }
-    ensures failed { result ≡ Err IoFault.Failed → Rose (E.faults err.old) (E.faults err.new) }
-    ensures memory { result ≡ Err IoFault.Memory → Rose (E.wants err.old) (E.wants err.new) }
-    ensures faults { E.faults err.old ≤ E.faults err.new }
-    ensures wants { E.wants err.old ≤ E.wants err.new }
-    ensures untouched { status ≡ Status.Ok → err.new ≡ err.old }
+// The text of a status.
+fn status_text(status: Status) -> ShortText
+    ensures { result.bytes ≡ status_text status }
 {
     let end = Text("\n");
     match status {
-        Status::Ok => Ok(()),
-        Status::Memory => deliver_pieces(&[Text("out of memory"), end], err),
-        Status::Usage => deliver_pieces(&[Text("usage: quartz COMMAND [words]"), end], err),
-        Status::Limit(which) => {
-            let name = Text(which_name(which));
-            deliver_pieces(&[Text("limit: "), name, end], err)
-        }
+        Status::Ok => joined(&[]),
+        Status::Memory => joined(&[Text("out of memory"), end]),
+        Status::Usage => joined(&[Text("usage: quartz COMMAND [words]"), end]),
+        Status::Limit(which) => joined(&[Text("limit: "), Text(which_name(which)), end]),
         Status::Qasm(fault) => {
             let kind = Text(fault_kind(fault));
             let place = Number(fault_place(fault));
-            deliver_pieces(&[Text("program: "), kind, Text(" at "), place, end], err)
+            joined(&[Text("program: "), kind, Text(" at "), place, end])
         }
-        Status::RuleSyntax { place } => {
-            deliver_pieces(&[Text("rules: Syntax at "), Number(place), end], err)
-        }
+        Status::RuleSyntax { place } => joined(&[Text("rules: Syntax at "), Number(place), end]),
         Status::Unsound { class, member } => {
             let (class, member) = (Number(class), Number(member));
             let (first, second) = (Text("rules: class "), Text(" member "));
             let third = Text(" is not equivalent to member 1");
-            deliver_pieces(&[first, class, second, member, third, end], err)
+            joined(&[first, class, second, member, third, end])
         }
-        Status::NoFile => deliver_pieces(&[Text("no such file"), end], err),
-        Status::ReadFault => deliver_pieces(&[Text("read fault"), end], err),
-        Status::WriteFault => deliver_pieces(&[Text("write fault"), end], err),
-        Status::ShelfFault => deliver_pieces(&[Text("rule file fault"), end], err),
+        Status::NoFile => joined(&[Text("no such file"), end]),
+        Status::ReadFault => joined(&[Text("read fault"), end]),
+        Status::WriteFault => joined(&[Text("write fault"), end]),
+        Status::ShelfFault => joined(&[Text("rule file fault"), end]),
     }
 }
 
-// Writes the whole text of a report. After an error a prefix of it is written, which is not the whole text.
-fn deliver_report<E: Sink>(report: Report, err: &mut E) -> Result<(), IoFault>
-    ensures whole { OnOk result (E.written err.new ≡ append_known (E.written err.old) (report_text report)) }
-    ensures part { OnErr result (HasProperPart (E.written err.old) (report_text report) (E.written err.new)) }
-    ensures failed { result ≡ Err IoFault.Failed → Rose (E.faults err.old) (E.faults err.new) }
-    ensures memory { result ≡ Err IoFault.Memory → Rose (E.wants err.old) (E.wants err.new) }
-    ensures faults { E.faults err.old ≤ E.faults err.new }
-    ensures wants { E.wants err.old ≤ E.wants err.new }
+// The text of a report.
+#[tactic(auto, unfolding(crate::specs::Reports::report_text))]
+fn report_text(report: Report) -> ShortText
+    ensures { result.bytes ≡ report_text report }
 {
-    deliver_pieces(
-        &[
-            Text("extended "),
-            Number(report.extended),
-            Text("\nkept "),
-            Number(report.kept),
-            Text("\nclasses "),
-            Number(report.classes),
-            Text("\nmembers "),
-            Number(report.members),
-            Text("\nprints "),
-            Number(report.prints),
-            Text("\n"),
-        ],
-        err,
-    )
+    joined(&[
+        Text("extended "),
+        Number(report.extended),
+        Text("\nkept "),
+        Number(report.kept),
+        Text("\nclasses "),
+        Number(report.classes),
+        Text("\nmembers "),
+        Number(report.members),
+        Text("\nprints "),
+        Number(report.prints),
+        Text("\n"),
+    ])
 }
 
-/// Writes the text of a status, and gives up where the sink answers an error. It answers nothing, so that no error changes a status.
-pub fn tell<E: Sink>(status: Status, err: &mut E)
-    ensures part { HasPart (E.written err.old) (status_text status) (E.written err.new) }
-    ensures whole { (Rose (E.faults err.old) (E.faults err.new) → ⊥) → (Rose (E.wants err.old) (E.wants err.new) → ⊥) → E.written err.new ≡ append_known (E.written err.old) (status_text status) }
-    ensures faults { E.faults err.old ≤ E.faults err.new }
-    ensures wants { E.wants err.old ≤ E.wants err.new }
-    ensures untouched { status ≡ Status.Ok → err.new ≡ err.old }
+// The text of the report where there is one, and else of the status.
+fn end_text(status: Status, report: Option<Report>) -> ShortText
+    ensures { result.bytes ≡ end_text status report }
 {
-    let _ = deliver_status(status, err);
+    match report {
+        Some(report) => report_text(report),
+        None => status_text(status),
+    }
 }
 
-// Writes the text of a report, and gives up where the sink answers an error.
-fn tell_report<E: Sink>(report: Report, err: &mut E)
-    ensures part { HasPart (E.written err.old) (report_text report) (E.written err.new) }
-    ensures whole { (Rose (E.faults err.old) (E.faults err.new) → ⊥) → (Rose (E.wants err.old) (E.wants err.new) → ⊥) → E.written err.new ≡ append_known (E.written err.old) (report_text report) }
+// Hands the whole text to the sink, and gives up where that answers an error.
+fn tell_text<E: Sink>(text: &[u8], err: &mut E)
+    ensures told { Tells text.now (E.written err.old) (E.written err.new) (Rose (E.faults err.old) (E.faults err.new) ⊎ Rose (E.wants err.old) (E.wants err.new)) }
     ensures faults { E.faults err.old ≤ E.faults err.new }
     ensures wants { E.wants err.old ≤ E.wants err.new }
+    ensures untouched { text.now ≡ [] → err.new ≡ err.old }
 {
-    let _ = deliver_report(report, err);
+    if !text.is_empty() {
+        let _ = deliver(text, err);
+    }
 }
 
 // Tells the report where there is one, and else the status.
 pub(crate) fn tell_end<E: Sink>(status: Status, report: Option<Report>, err: &mut E)
-    ensures part { HasPart (E.written err.old) (end_text status report) (E.written err.new) }
-    ensures whole { (Rose (E.faults err.old) (E.faults err.new) → ⊥) → (Rose (E.wants err.old) (E.wants err.new) → ⊥) → E.written err.new ≡ append_known (E.written err.old) (end_text status report) }
+    ensures told { Tells (end_text status report) (E.written err.old) (E.written err.new) (Rose (E.faults err.old) (E.faults err.new) ⊎ Rose (E.wants err.old) (E.wants err.new)) }
     ensures faults { E.faults err.old ≤ E.faults err.new }
     ensures wants { E.wants err.old ≤ E.wants err.new }
     ensures untouched { status ≡ Status.Ok → report ≡ None → err.new ≡ err.old }
 {
-    match report {
-        Some(report) => tell_report(report, err),
-        None => tell(status, err),
-    }
+    let text = end_text(status, report);
+    tell_text(text.as_str().as_bytes(), err);
+}
+
+/// Writes the text of a status, and gives up where the sink answers an error. It answers nothing, so that no error changes a status.
+/// The text is handed to the sink whole, so that a sink that takes all of a piece gets it by one write.
+pub fn tell<E: Sink>(status: Status, err: &mut E)
+    ensures told { Tells (status_text status) (E.written err.old) (E.written err.new) (Rose (E.faults err.old) (E.faults err.new) ⊎ Rose (E.wants err.old) (E.wants err.new)) }
+    ensures faults { E.faults err.old ≤ E.faults err.new }
+    ensures wants { E.wants err.old ≤ E.wants err.new }
+    ensures untouched { status ≡ Status.Ok → err.new ≡ err.old }
+{
+    tell_end(status, None, err);
 }

@@ -4,8 +4,8 @@ ghost use Rattle.std.specs.Io.KnownBytes.{IsAtEnd};
 ghost use Rattle.qz_circ.specs.declared.fault.Which.TheVariants.{InputBytes};
 ghost use Rattle.qz_circ.specs.ProgramText.{program_text};
 ghost use Rattle.qz_io.specs.Told.{TakesBytes};
-ghost use Rattle.qz_io.specs.Transfers.{input_of};
-ghost use Rattle.qz_top.specs.Answer.{Storage, IsCalm, output_of, IsCarriedOut};
+ghost use Rattle.qz_io.specs.Transfers.{source_shown};
+ghost use Rattle.qz_top.specs.Answer.{Storage, IsCalm, sink_shown, IsCarriedOut};
 ghost use Rattle.qz_top.specs.Inputs.{most_input_bytes};
 ghost use Rattle.qz_top.specs.Making.{IsMadeOfInput, EndsByInput};
 ghost use Rattle.qz_top.specs.Status.{IsBeforeInput, WritesNothing};
@@ -19,8 +19,8 @@ use std::alloc::Global;
 
 // Reads the input, and gives the text for the output; or the status that the command ends with before it writes.
 fn tidied_input<I: Source>(alloc: Global, input: &mut I) -> Result<Vec<u8>, Status>
-    ensures made { let shown = input_of I.left I.faults I.answers_faults input.old input.new in
-        MatchResult result (λ text. IsMadeOfInput (λ program. text.items ≡ program_text program) shown) (λ status. EndsByInput status shown) }
+    ensures made { let seen = source_shown I.Source input.old input.new in
+        MatchResult result (λ text. IsMadeOfInput (λ program. text.items ≡ program_text program) seen) (λ status. EndsByInput status seen) }
     ensures at_end { OnOk result (IsAtEnd (I.left input.new)) }
     ensures taken { TakesBytes (I.left input.old) (I.left input.new) (λ n. n ≤ most_input_bytes + 1) }
     ensures within { result ≢ Err (Status.Limit InputBytes) → TakesBytes (I.left input.old) (I.left input.new) (λ n. n ≤ most_input_bytes) }
@@ -36,7 +36,7 @@ fn tidied_input<I: Source>(alloc: Global, input: &mut I) -> Result<Vec<u8>, Stat
 pub(crate) fn tidy<I: Source, O: Sink>(alloc: Global, input: &mut I, out: &mut O) -> Status
     // Whatever the shelf is, as long as it has no fault.
     ensures carried_out { (shelf : Storage) → IsCalm shelf → IsCarriedOut Tidies result
-        (record { input = input_of I.left I.faults I.answers_faults input.old input.new; shelf = shelf; out = output_of O.written O.faults O.answers_faults out.old out.new }) }
+        (record { input = source_shown I.Source input.old input.new; shelf = shelf; out = sink_shown O.Sink out.old out.new }) }
     ensures at_end { result ≡ Status.Ok → IsAtEnd (I.left input.new) }
     ensures taken { TakesBytes (I.left input.old) (I.left input.new) (λ n. n ≤ most_input_bytes + 1) }
     ensures within { result ≢ Status.Limit InputBytes → TakesBytes (I.left input.old) (I.left input.new) (λ n. n ≤ most_input_bytes) }

@@ -8,9 +8,10 @@ ghost use Rattle.qz_circ.specs.Joined.{circuits_of_ranks};
 ghost use Rattle.qz_circ.specs.Lines.{line};
 ghost use Rattle.qz_circ.specs.ProgramCircuits.{IsProgramGate};
 ghost use Rattle.qz_io.specs.Transfers.{Input};
-ghost use Rattle.qz_top.specs.Answer.{Storage, IsCalm, output_of, IsCarriedOut};
+ghost use Rattle.qz_top.specs.Answer.{Storage, IsCalm, sink_shown, IsCarriedOut};
 ghost use Rattle.qz_random.specs.RandomWords.{generator_after};
 ghost use Rattle.qz_top.specs.Status.{WritesNothing};
+ghost use Rattle.qz_top.specs.Words.{IsTrialSize};
 ghost use Rattle.qz_top.specs.Trial.{controlled, gate_of_kind, trial_gate, trial_circuit, trial_limits, trial_plan, AreTrialClasses, IsTrialFound, summary, IsTrialText, Tries};
 
 use crate::status::Status;
@@ -69,10 +70,8 @@ fn next_gate(words: &mut Pcg64, qubits: u64) -> Inst
 }
 
 // The circuit of a trial.
-fn made(alloc: Global, seed: u64, qubits: u64, gates: u64) -> Result<Vec<Inst>, Memory>
-    requires some { 1 ≤ qubits }
-    requires few { qubits ≤ 64 }
-    requires short { gates ≤ 20000 }
+fn trial_circuit(alloc: Global, seed: u64, qubits: u64, gates: u64) -> Result<Vec<Inst>, Memory>
+    requires { IsTrialSize qubits gates }
     ensures circuit { IfOk result (λ circuit. circuit.items ≡ trial_circuit seed qubits gates) }
     ensures gates { IfOk result (λ circuit. AllByRecursion (IsProgramGate qubits) circuit.items) }
 {
@@ -150,37 +149,36 @@ fn push_line(out: &mut Vec<u8>, word: &[u8], n: u64) -> Result<(), AllocError>
     out.extend_from_slice(b"\n")
 }
 
-// The text of the summary of a circuit and one that was found from it.
+// The summary of a circuit and one that was found from it.
 #[tactic(auto, unfolding(crate::specs::Trial::summary))]
-fn push_summary(
-    out: &mut Vec<u8>,
+fn summary(
+    alloc: Global,
     seed: u64,
     qubits: u64,
     gates: u64,
     before: &[Inst],
     after: &[Inst],
-) -> Result<(), AllocError>
-    ensures { OnOk result (out.new.items ≡ out.old.items ++ summary seed qubits gates before.now after.now) }
+) -> Result<Vec<u8>, AllocError>
+    ensures { IfOk result (λ text. text.items ≡ summary seed qubits gates before.now after.now) }
 {
-    push_numbered(out, b"trial ", seed)?;
-    push_numbered(out, b" ", qubits)?;
-    push_line(out, b" ", gates)?;
-    push_line(out, b"before ", before.len() as u64)?;
-    push_line(out, b"after ", after.len() as u64)
+    let mut text = Vec::new(alloc);
+    push_numbered(&mut text, b"trial ", seed)?;
+    push_numbered(&mut text, b" ", qubits)?;
+    push_line(&mut text, b" ", gates)?;
+    push_line(&mut text, b"before ", before.len() as u64)?;
+    push_line(&mut text, b"after ", after.len() as u64)?;
+    Ok(text)
 }
 
 // The text of a trial.
 fn trial_text(alloc: Global, seed: u64, qubits: u64, gates: u64) -> Result<Vec<u8>, Memory>
-    requires some { 1 ≤ qubits }
-    requires few { qubits ≤ 64 }
-    requires short { gates ≤ 20000 }
+    requires { IsTrialSize qubits gates }
     ensures { IfOk result (λ text. IsTrialText seed qubits gates text.items) }
 {
-    let before = made(alloc, seed, qubits, gates)?;
+    let before = trial_circuit(alloc, seed, qubits, gates)?;
     let after = found(alloc, &before)?;
-    let mut text = Vec::new(alloc);
-    match push_summary(&mut text, seed, qubits, gates, &before, &after) {
-        Ok(()) => Ok(text),
+    match summary(alloc, seed, qubits, gates, &before, &after) {
+        Ok(text) => Ok(text),
         Err(_) => Err(Memory),
     }
 }
@@ -194,12 +192,10 @@ pub(crate) fn trial<O: Sink>(
     gates: u64,
     out: &mut O,
 ) -> Status
-    requires some { 1 ≤ qubits }
-    requires few { qubits ≤ 64 }
-    requires short { gates ≤ 20000 }
+    requires { IsTrialSize qubits gates }
     // Whatever the input and the shelf are, as long as they have no fault.
     ensures carried_out { (input : Input) (shelf : Storage) → input.faults_after ≡ input.faults_before → IsCalm shelf → IsCarriedOut (λ given. Tries seed qubits gates) result
-        (record { input = input; shelf = shelf; out = output_of O.written O.faults O.answers_faults out.old out.new }) }
+        (record { input = input; shelf = shelf; out = sink_shown O.Sink out.old out.new }) }
     ensures begun { WritesNothing result → ⊥ }
     ensures faults { O.faults out.old ≤ O.faults out.new }
     ensures wants { O.wants out.old ≤ O.wants out.new }

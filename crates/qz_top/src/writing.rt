@@ -1,10 +1,9 @@
 //! How the text of a command is made and handed to the output.
-ghost use Rattle.std.specs.Prelude.{◌≡◌, ◌≢◌, ◌≤◌, IsTrue, MatchResult};
-ghost use Rattle.std.specs.Io.KnownBytes.{append_known};
+ghost use Rattle.std.specs.Prelude.{◌≡◌, ◌≤◌, MatchResult};
 ghost use Rattle.qz_circ.specs.ProgramText.{program_text};
 ghost use Rattle.qz_circ.specs.ValidPrograms.{Valid};
 ghost use Rattle.qz_io.specs.Counts.{Rose};
-ghost use Rattle.qz_io.specs.Told.{HasProperPart};
+ghost use Rattle.qz_top.specs.Answer.{sink_shown, IsWritten};
 ghost use Rattle.qz_top.specs.Status.{WritesNothing};
 
 use crate::status::Status;
@@ -24,13 +23,10 @@ pub(crate) fn text_of(alloc: Global, program: &Program) -> Result<Vec<u8>, Statu
 // Writes the whole text. After an error a prefix of it is written, which is not the whole text.
 pub(crate) fn write_text<O: Sink>(text: &[u8], out: &mut O) -> Status
     ensures begun { WritesNothing result → ⊥ }
-    ensures ok { result ≡ Status.Ok → O.written out.new ≡ append_known (O.written out.old) text.now }
-    ensures part { result ≢ Status.Ok → HasProperPart (O.written out.old) text.now (O.written out.new) }
-    ensures failed { result ≡ Status.WriteFault → Rose (O.faults out.old) (O.faults out.new) }
+    ensures written { IsWritten text.now result (sink_shown O.Sink out.old out.new) }
     ensures memory { result ≡ Status.Memory → Rose (O.wants out.old) (O.wants out.new) }
     ensures faults { O.faults out.old ≤ O.faults out.new }
     ensures wants { O.wants out.old ≤ O.wants out.new }
-    ensures answered { IsTrue O.answers_faults → result ≢ Status.WriteFault → O.faults out.new ≡ O.faults out.old }
 {
     match deliver(text, out) {
         Ok(()) => Status::Ok,

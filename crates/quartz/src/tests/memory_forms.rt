@@ -140,18 +140,22 @@ fn reads_so(
 
 #[test]
 fn sources_stop(rt: HostRuntime) -> Result<(), Fail> {
-    let alloc = rt.alloc();
-    reads_so(&rt, alloc, &[], 3, "abc,d,,,")?;
-    reads_so(&rt, alloc, &[0], 3, "!,abc,d,,")?;
-    reads_so(&rt, alloc, &[2], 3, "ab,!,cd,,")?;
-    reads_so(&rt, alloc, &[4], 3, "abc,d,!,,")?;
-    reads_so(&rt, alloc, &[9], 3, "abc,d,,,")?;
-    reads_so(&rt, alloc, &[1, 4], 3, "a,!,bcd,!,")?;
-    reads_so(&rt, alloc, &[2, 2], 3, "ab,!,!,cd,")?;
-    reads_so(&rt, alloc, &[3, 1], 3, "abc,!,d,,")?;
-    reads_so(&rt, alloc, &[1, 0, 2], 3, "a,!,bcd,,")?;
-    reads_so(&rt, alloc, &[], 0, ",,,,")?;
-    reads_so(&rt, alloc, &[0], 0, "!,,,,")?;
+    let rows: [(&[u64], usize, &str); 11] = [
+        (&[], 3, "abc,d,,,"),
+        (&[0], 3, "!,abc,d,,"),
+        (&[2], 3, "ab,!,cd,,"),
+        (&[4], 3, "abc,d,!,,"),
+        (&[9], 3, "abc,d,,,"),
+        (&[1, 4], 3, "a,!,bcd,!,"),
+        (&[2, 2], 3, "ab,!,!,cd,"),
+        (&[3, 1], 3, "abc,!,d,,"),
+        (&[1, 0, 2], 3, "a,!,bcd,,"),
+        (&[], 0, ",,,,"),
+        (&[0], 0, "!,,,,"),
+    ];
+    for (stops, room, want) in rows {
+        reads_so(&rt, rt.alloc(), stops, room, want)?;
+    }
     Ok(())
 }
 
@@ -179,16 +183,20 @@ fn is_kept(written: &[u8], transcript: &str) -> bool {
 
 #[test]
 fn sinks_stop(rt: HostRuntime) -> Result<(), Fail> {
-    let alloc = rt.alloc();
-    writes_so(&rt, alloc, &[], "abc", "abc,abc,abc,abc,")?;
-    writes_so(&rt, alloc, &[0], "abc", "!,abc,abc,abc,")?;
-    writes_so(&rt, alloc, &[2], "abc", "ab,!,abc,abc,")?;
-    writes_so(&rt, alloc, &[9], "abc", "abc,abc,abc,!,")?;
-    writes_so(&rt, alloc, &[1, 4], "abc", "a,!,abc,!,")?;
-    writes_so(&rt, alloc, &[2, 2], "abc", "ab,!,!,abc,")?;
-    writes_so(&rt, alloc, &[3, 1], "abc", "abc,!,abc,abc,")?;
-    writes_so(&rt, alloc, &[1, 0, 2], "abc", "a,!,abc,abc,")?;
-    writes_so(&rt, alloc, &[0], "", "!,,,,")?;
+    let rows: [(&[u64], &str, &str); 9] = [
+        (&[], "abc", "abc,abc,abc,abc,"),
+        (&[0], "abc", "!,abc,abc,abc,"),
+        (&[2], "abc", "ab,!,abc,abc,"),
+        (&[9], "abc", "abc,abc,abc,!,"),
+        (&[1, 4], "abc", "a,!,abc,!,"),
+        (&[2, 2], "abc", "ab,!,!,abc,"),
+        (&[3, 1], "abc", "abc,!,abc,abc,"),
+        (&[1, 0, 2], "abc", "a,!,abc,abc,"),
+        (&[0], "", "!,,,,"),
+    ];
+    for (stops, piece, want) in rows {
+        writes_so(&rt, rt.alloc(), stops, piece, want)?;
+    }
     Ok(())
 }
 
@@ -227,61 +235,32 @@ fn visits_so(
 
 #[test]
 fn shelves_stop(rt: HostRuntime) -> Result<(), Fail> {
-    let alloc = rt.alloc();
-    visits_so(
-        &rt,
-        alloc,
-        &[],
-        false,
-        &["a", "b", "a"],
-        "a:abc,d,,b:xy,,,a:abc,d,,",
-    )?;
-    visits_so(&rt, alloc, &[], false, &["c", ""], "c-:e,,,")?;
-    visits_so(&rt, alloc, &[0], false, &["a", "a"], "a:!,abc,d,a:abc,d,,")?;
-    visits_so(&rt, alloc, &[1], false, &["a", "b"], "a:a,!,bcd,b:xy,,,")?;
-    visits_so(&rt, alloc, &[4], false, &["b", "a"], "b:xy,,,a:abc,d,!,")?;
-    visits_so(&rt, alloc, &[1, 1], false, &["a", "b"], "a:a,!,!,b:xy,,,")?;
-    visits_so(
-        &rt,
-        alloc,
-        &[3, 1],
-        false,
-        &["a", "b"],
-        "a:abc,!,d,b:x,!,y,",
-    )?;
-    visits_so(
-        &rt,
-        alloc,
-        &[2],
-        true,
-        &["a", "a", "a"],
-        "a!a:ab,!,cd,a:abc,d,,",
-    )?;
-    visits_so(&rt, alloc, &[], true, &["c", "c"], "c!c-")?;
+    let rows: [(&[u64], bool, &[&str], &str); 9] = [
+        (&[], false, &["a", "b", "a"], "a:abc,d,,b:xy,,,a:abc,d,,"),
+        (&[], false, &["c", ""], "c-:e,,,"),
+        (&[0], false, &["a", "a"], "a:!,abc,d,a:abc,d,,"),
+        (&[1], false, &["a", "b"], "a:a,!,bcd,b:xy,,,"),
+        (&[4], false, &["b", "a"], "b:xy,,,a:abc,d,!,"),
+        (&[1, 1], false, &["a", "b"], "a:a,!,!,b:xy,,,"),
+        (&[3, 1], false, &["a", "b"], "a:abc,!,d,b:x,!,y,"),
+        (&[2], true, &["a", "a", "a"], "a!a:ab,!,cd,a:abc,d,,"),
+        (&[], true, &["c", "c"], "c!c-"),
+    ];
+    for (stops, fail_open, names, want) in rows {
+        visits_so(&rt, rt.alloc(), stops, fail_open, names, want)?;
+    }
     Ok(())
 }
 
 #[test]
-fn sure_sources_give_all(rt: HostRuntime) -> Result<(), Fail> {
+fn sure_forms_move_all(rt: HostRuntime) -> Result<(), Fail> {
     let alloc = rt.alloc();
     let mut input = SureSource::new(Vec::from_slice(alloc, b"abcd")?);
     assert!(rt; says(&reads(alloc, &mut input, 0)?, ",,,,"));
     assert!(rt; says(&reads(alloc, &mut input, 3)?, "abc,d,,,"));
-    Ok(())
-}
-
-#[test]
-fn sure_sinks_take_all(rt: HostRuntime) -> Result<(), Fail> {
-    let alloc = rt.alloc();
     let mut out = SureSink::new(alloc);
     assert!(rt; says(&writes(alloc, &mut out, b"ab")?, "ab,ab,ab,ab,"));
     assert!(rt; says(out.written(), "abababab") && out.wants() == 0);
-    Ok(())
-}
-
-#[test]
-fn sure_shelves_open_all(rt: HostRuntime) -> Result<(), Fail> {
-    let alloc = rt.alloc();
     let mut shelf = SureShelf::new(files(alloc)?);
     let text = visits(alloc, &mut shelf, &["a", "c", "", "a"], 4)?;
     assert!(rt; says(&text, "a:abcd,,,c-:e,,,a:abcd,,,"));

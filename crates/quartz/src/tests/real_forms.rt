@@ -1,27 +1,43 @@
-//! What the forms over the system read, write and count.
+//! What the forms over the system read, write and count, at its own streams and files and at stand-ins for them.
+ghost use Rattle.std.specs.Prelude.{IsTrue};
 
 use qz_io::{
     DirShelf, IoFault, Shelf, Sink, Source, StdSink, StdSource, Unread, deliver, read_file,
 };
 use std::alloc::{AllocError, Allocator, Global};
+use std::cell::Cell;
 use std::fs::{Metadata, OpenFile, OpenOptions};
+use std::io::ErrorKind;
 use std::rt::Files;
 use std::test::Fail;
 use std::{env, fs, io, process};
 
-// A stream that fails once, and then takes what it is given, or is at its end.
+// What the system answers to a call: how many bytes it moves, or an error.
+type Answer = Result<usize, ErrorKind>;
+
+// A stand-in for a stream or a file of the system, which answers so many calls so, and moves one byte at each later call.
 #[derive(Drop)]
-struct Halting {
-    has_failed: bool,
+struct Scripted {
+    answer: Answer,
+    times: u64,
 }
 
-impl io::Write for Halting {
-    fn write(&mut self, bytes: &[u8]) -> io::Result<usize> {
-        if self.has_failed {
-            return Ok(bytes.len());
+impl Scripted {
+    fn next(&mut self) -> io::Result<usize> {
+        if self.times == 0 {
+            return Ok(1);
         }
-        self.has_failed = true;
-        Err(io::ErrorKind::Interrupted.into())
+        self.times -= 1;
+        match self.answer {
+            Ok(count) => Ok(count),
+            Err(kind) => Err(kind.into()),
+        }
+    }
+}
+
+impl io::Write for Scripted {
+    fn write(&mut self, bytes: &[u8]) -> io::Result<usize> {
+        Ok(self.next()?.min(bytes.len()))
     }
 
     fn flush(&mut self) -> io::Result<()> {
@@ -29,13 +45,9 @@ impl io::Write for Halting {
     }
 }
 
-impl io::Read for Halting {
+impl io::Read for Scripted {
     fn read(&mut self, piece: &mut [u8]) -> io::Result<usize> {
-        if self.has_failed {
-            return Ok(0);
-        }
-        self.has_failed = true;
-        Err(io::ErrorKind::Interrupted.into())
+        Ok(self.next()?.min(piece.len()))
     }
 }
 
@@ -44,13 +56,13 @@ fn unsupported<T>() -> io::Result<T> {
     Err(io::ErrorKind::Unsupported.into())
 }
 
-impl io::Seek for Halting {
+impl io::Seek for Scripted {
     fn seek(&mut self, _to: io::SeekFrom) -> io::Result<u64> {
         unsupported()
     }
 }
 
-impl OpenFile for Halting {
+impl OpenFile for Scripted {
     fn metadata(&self) -> io::Result<Metadata> {
         unsupported()
     }
@@ -68,20 +80,30 @@ impl OpenFile for Halting {
     }
 }
 
-// Files that are there under each name, and of which each fails once.
+// A stand-in for the files of the system: the first opening of `file` answers this error, if there is one, and each later
+// one a file that answers its first two reads so.
 #[derive(Drop)]
-struct HaltingFiles;
+struct ScriptedFiles {
+    refusal: Cell<Option<ErrorKind>>,
+    answer: Answer,
+}
 
-impl Files for HaltingFiles {
-    type File = Halting;
+impl Files for ScriptedFiles {
+    type File = Scripted;
 
-    type Dir = Halting;
+    type Dir = Scripted;
 
-    fn open_file(&self, _how: &OpenOptions, _path: &str) -> io::Result<Halting> {
-        Ok(Halting { has_failed: false })
+    fn open_file(&self, _how: &OpenOptions, path: &str) -> io::Result<Scripted> {
+        if path != "file" {
+            return unsupported();
+        }
+        match self.refusal.replace(None) {
+            Some(kind) => Err(kind.into()),
+            None => Ok(twice(self.answer)),
+        }
     }
 
-    fn open_dir(&self, _path: &str) -> io::Result<Halting> {
+    fn open_dir(&self, _path: &str) -> io::Result<Scripted> {
         unsupported()
     }
 
@@ -118,27 +140,61 @@ impl Files for HaltingFiles {
     }
 }
 
-// A stream that takes nothing.
-#[derive(Drop)]
-struct Full;
+fn twice(answer: Answer) -> Scripted {
+    Scripted { answer, times: 2 }
+}
 
-impl io::Write for Full {
-    fn write(&mut self, _bytes: &[u8]) -> io::Result<usize> {
-        Ok(0)
-    }
-
-    fn flush(&mut self) -> io::Result<()> {
-        Ok(())
-    }
+// Each kind of error.
+fn kinds() -> [ErrorKind; 42] {
+    [
+        ErrorKind::NotFound,
+        ErrorKind::PermissionDenied,
+        ErrorKind::ConnectionRefused,
+        ErrorKind::ConnectionReset,
+        ErrorKind::HostUnreachable,
+        ErrorKind::NetworkUnreachable,
+        ErrorKind::ConnectionAborted,
+        ErrorKind::NotConnected,
+        ErrorKind::AddrInUse,
+        ErrorKind::AddrNotAvailable,
+        ErrorKind::NetworkDown,
+        ErrorKind::BrokenPipe,
+        ErrorKind::AlreadyExists,
+        ErrorKind::WouldBlock,
+        ErrorKind::NotADirectory,
+        ErrorKind::IsADirectory,
+        ErrorKind::DirectoryNotEmpty,
+        ErrorKind::ReadOnlyFilesystem,
+        ErrorKind::FilesystemLoop,
+        ErrorKind::StaleNetworkFileHandle,
+        ErrorKind::InvalidInput,
+        ErrorKind::InvalidData,
+        ErrorKind::TimedOut,
+        ErrorKind::WriteZero,
+        ErrorKind::StorageFull,
+        ErrorKind::NotSeekable,
+        ErrorKind::QuotaExceeded,
+        ErrorKind::FileTooLarge,
+        ErrorKind::ResourceBusy,
+        ErrorKind::ExecutableFileBusy,
+        ErrorKind::Deadlock,
+        ErrorKind::CrossesDevices,
+        ErrorKind::TooManyLinks,
+        ErrorKind::InvalidFilename,
+        ErrorKind::ArgumentListTooLong,
+        ErrorKind::Interrupted,
+        ErrorKind::Unsupported,
+        ErrorKind::UnexpectedEof,
+        ErrorKind::OutOfMemory,
+        ErrorKind::InProgress,
+        ErrorKind::Other,
+        ErrorKind::Uncategorized,
+    ]
 }
 
 // The next functions hide the clauses of what is tested: a test that knows less is proved sooner.
 fn delivers<O: Sink>(out: &mut O, text: &[u8]) -> bool {
     deliver(text, out) == Ok(())
-}
-
-fn fails_to_deliver<O: Sink>(out: &mut O, text: &[u8]) -> bool {
-    deliver(text, out) == Err(IoFault::Failed)
 }
 
 fn sink_has_failed<W: io::Write + Drop>(out: &StdSink<W>, faults: u64) -> bool {
@@ -148,10 +204,6 @@ fn sink_has_failed<W: io::Write + Drop>(out: &StdSink<W>, faults: u64) -> bool {
 fn is_at_end<I: Source>(input: &mut I) -> bool {
     let mut piece = [0u8; 8];
     input.read(&mut piece) == Ok(0) && input.read(&mut []) == Ok(0)
-}
-
-fn fails_to_read<I: Source>(input: &mut I) -> bool {
-    input.read(&mut [0u8; 8]) == Err(IoFault::Failed)
 }
 
 fn source_has_failed<R: io::Read + Drop>(input: &StdSource<R>, faults: u64) -> bool {
@@ -192,17 +244,6 @@ fn fails_to_open_or_to_read<F: Shelf>(alloc: Global, shelf: &mut F, name: &str) 
     }
 }
 
-// Whether the first read of the file fails, and the second one is at its end.
-fn opens_and_fails_once<F: Shelf>(shelf: &mut F, name: &str) -> bool {
-    let mut piece = [0u8; 8];
-    match shelf.open(name) {
-        Ok(true) => {
-            shelf.read(&mut piece) == Err(IoFault::Failed) && shelf.read(&mut piece) == Ok(0)
-        }
-        _ => false,
-    }
-}
-
 fn path_below(alloc: Global, folder: &str, name: &str) -> Result<String, AllocError> {
     format!(in alloc; "{folder}/{name}")
 }
@@ -239,41 +280,103 @@ fn reads_files_of_the_system(rt: HostRuntime) -> Result<(), Fail> {
 }
 
 #[test]
-fn reads_standard_input_at_its_end(rt: HostRuntime) {
+fn moves_bytes_by_standard_streams(rt: HostRuntime) {
     let mut input = StdSource::new(rt.stdin());
     assert!(rt; is_at_end(&mut input));
     assert!(rt; source_has_failed(&input, 0));
-}
-
-#[test]
-fn writes_to_standard_error(rt: HostRuntime) {
     let mut out = StdSink::new(rt.stderr());
     assert!(rt; delivers(&mut out, b"on standard error\n"));
     assert!(rt; sink_has_failed(&out, 0));
 }
 
-#[test]
-fn counts_each_fault_of_a_stream_once(rt: HostRuntime) {
-    let mut out = StdSink::new(Halting { has_failed: false });
-    assert!(rt; fails_to_deliver(&mut out, b"text"));
-    assert!(rt; delivers(&mut out, b"text"));
-    assert!(rt; sink_has_failed(&out, 1));
-    let mut out = StdSink::new(Full);
-    assert!(rt; delivers(&mut out, b""));
-    assert!(rt; fails_to_deliver(&mut out, b"text"));
-    assert!(rt; fails_to_deliver(&mut out, b"text"));
-    assert!(rt; sink_has_failed(&out, 2));
-    let mut input = StdSource::new(Halting { has_failed: false });
-    assert!(rt; fails_to_read(&mut input));
-    assert!(rt; is_at_end(&mut input));
-    assert!(rt; source_has_failed(&input, 1));
+type Moved = Result<usize, IoFault>;
+
+// Whether two writes of a text answer so, and a third one takes a byte.
+fn writes_so<O: Sink>(out: &mut O, wanted: Moved) -> bool {
+    out.write(b"text") == wanted && out.write(b"text") == wanted && out.write(b"text") == Ok(1)
 }
 
+// Whether two reads answer so, and a third one gives a byte.
+fn reads_so<I: Source>(input: &mut I, wanted: Moved) -> bool {
+    let mut piece = [0u8; 8];
+    input.read(&mut piece) == wanted
+        && input.read(&mut piece) == wanted
+        && input.read(&mut piece) == Ok(1)
+}
+
+// Whether two reads of the open file answer so, and a third one gives a byte.
+fn reads_file_so<F: Shelf>(shelf: &mut F, wanted: Moved) -> bool
+    requires { IsTrue (F.is_open shelf.old) }
+{
+    let mut piece = [0u8; 8];
+    shelf.read(&mut piece) == wanted
+        && shelf.read(&mut piece) == wanted
+        && shelf.read(&mut piece) == Ok(1)
+}
+
+// Whether the opening of the file answers so.
+fn opens_so<F: Shelf>(shelf: &mut F, wanted: Result<bool, IoFault>) -> bool {
+    shelf.open("file") == wanted
+}
+
+// Whether the file opens, two of its reads answer so, and a third one gives a byte.
+fn opens_and_reads_so<F: Shelf>(shelf: &mut F, wanted: Moved) -> bool {
+    match shelf.open("file") {
+        Ok(true) => reads_file_so(shelf, wanted),
+        _ => false,
+    }
+}
+
+fn sink_answers(answer: Answer, wanted: Moved, faults: u64) -> bool {
+    let mut out = StdSink::new(twice(answer));
+    writes_so(&mut out, wanted) && sink_has_failed(&out, faults)
+}
+
+fn source_answers(answer: Answer, wanted: Moved, faults: u64) -> bool {
+    let mut input = StdSource::new(twice(answer));
+    reads_so(&mut input, wanted) && source_has_failed(&input, faults)
+}
+
+fn file_answers(answer: Answer, wanted: Moved, faults: u64) -> bool {
+    let refusal = Cell::new(None);
+    let mut shelf = DirShelf::new(ScriptedFiles { refusal, answer });
+    opens_and_reads_so(&mut shelf, wanted) && shelf_has_failed(&shelf, faults)
+}
+
+// Whether an opening that the system refuses for this answers so, counts so many faults, and the next one finds the file.
+fn opening_answers(kind: ErrorKind, wanted: Result<bool, IoFault>, faults: u64) -> bool {
+    let refusal = Cell::new(Some(kind));
+    let answer = Ok(0);
+    let mut shelf = DirShelf::new(ScriptedFiles { refusal, answer });
+    opens_so(&mut shelf, wanted)
+        && shelf_has_failed(&shelf, faults)
+        && opens_so(&mut shelf, Ok(true))
+}
+
+// Each error is a fault, answered and counted once, also one that a second try would make good; but for the report that there
+// is no such file.
 #[test]
-fn counts_each_fault_of_a_file_once(rt: HostRuntime) {
-    let mut shelf = DirShelf::new(HaltingFiles);
-    assert!(rt; opens_and_fails_once(&mut shelf, "file"));
-    assert!(rt; shelf_has_failed(&shelf, 1));
-    assert!(rt; opens_and_fails_once(&mut shelf, "file"));
-    assert!(rt; shelf_has_failed(&shelf, 2));
+fn answers_each_error_of_the_system(rt: HostRuntime) {
+    let failed = Err(IoFault::Failed);
+    for kind in kinds() {
+        assert!(rt; sink_answers(Err(kind), failed, 2), "{kind:?}");
+        assert!(rt; source_answers(Err(kind), failed, 2), "{kind:?}");
+        assert!(rt; file_answers(Err(kind), failed, 2), "{kind:?}");
+        let refused = Err(IoFault::Failed);
+        if kind == ErrorKind::NotFound {
+            assert!(rt; opening_answers(kind, Ok(false), 0));
+        } else {
+            assert!(rt; opening_answers(kind, refused, 1), "{kind:?}");
+        }
+    }
+}
+
+// A read that gives nothing is the end, and no later read is made for it; a write that takes nothing of a text is a fault.
+#[test]
+fn stops_where_nothing_is_moved(rt: HostRuntime) {
+    assert!(rt; source_answers(Ok(0), Ok(0), 0));
+    assert!(rt; file_answers(Ok(0), Ok(0), 0));
+    assert!(rt; sink_answers(Ok(0), Err(IoFault::Failed), 2));
+    let mut out = StdSink::new(twice(Ok(0)));
+    assert!(rt; delivers(&mut out, b"") && sink_has_failed(&out, 0));
 }

@@ -105,18 +105,22 @@ fn reads_so(
 
 #[test]
 fn reads_sources_to_their_end_or_past_the_limit(rt: HostRuntime) -> Result<(), Fail> {
-    let alloc = rt.alloc();
-    reads_so(&rt, alloc, &[], 4, "abcd,,,")?;
-    reads_so(&rt, alloc, &[], 5, "abcd,,,")?;
-    reads_so(&rt, alloc, &[], u64::MAX, "abcd,,,")?;
-    reads_so(&rt, alloc, &[], 3, "+,,,")?;
-    reads_so(&rt, alloc, &[], 1, "+,+,,")?;
-    reads_so(&rt, alloc, &[], 0, "+,+,+,")?;
-    reads_so(&rt, alloc, &[0], 4, "!,abcd,,")?;
-    reads_so(&rt, alloc, &[2], 4, "!,cd,,")?;
-    reads_so(&rt, alloc, &[2, 2], 4, "!,!,cd,")?;
-    reads_so(&rt, alloc, &[4], 4, "!,,,")?;
-    reads_so(&rt, alloc, &[2], 1, "+,!,+,")?;
+    let rows: [(&[u64], u64, &str); 11] = [
+        (&[], 4, "abcd,,,"),
+        (&[], 5, "abcd,,,"),
+        (&[], u64::MAX, "abcd,,,"),
+        (&[], 3, "+,,,"),
+        (&[], 1, "+,+,,"),
+        (&[], 0, "+,+,+,"),
+        (&[0], 4, "!,abcd,,"),
+        (&[2], 4, "!,cd,,"),
+        (&[2, 2], 4, "!,!,cd,"),
+        (&[4], 4, "!,,,"),
+        (&[2], 1, "+,!,+,"),
+    ];
+    for (stops, limit, want) in rows {
+        reads_so(&rt, rt.alloc(), stops, limit, want)?;
+    }
     Ok(())
 }
 
@@ -144,11 +148,15 @@ fn visits_so(
 
 #[test]
 fn reads_files_to_their_end_or_past_the_limit(rt: HostRuntime) -> Result<(), Fail> {
-    let alloc = rt.alloc();
-    visits_so(&rt, alloc, &[], 4, "abcd,,,")?;
-    visits_so(&rt, alloc, &[], 3, "+,,,")?;
-    visits_so(&rt, alloc, &[2], 4, "!,cd,,")?;
-    visits_so(&rt, alloc, &[4], 4, "!,,,")?;
+    let rows: [(&[u64], u64, &str); 4] = [
+        (&[], 4, "abcd,,,"),
+        (&[], 3, "+,,,"),
+        (&[2], 4, "!,cd,,"),
+        (&[4], 4, "!,,,"),
+    ];
+    for (stops, limit, want) in rows {
+        visits_so(&rt, rt.alloc(), stops, limit, want)?;
+    }
     Ok(())
 }
 
@@ -172,12 +180,16 @@ fn delivers_so(
 
 #[test]
 fn delivers_up_to_a_fault(rt: HostRuntime) -> Result<(), Fail> {
-    let alloc = rt.alloc();
-    delivers_so(&rt, alloc, &[], "...", "abcabcabc")?;
-    delivers_so(&rt, alloc, &[0], "!..", "abcabc")?;
-    delivers_so(&rt, alloc, &[2], "!..", "ababcabc")?;
-    delivers_so(&rt, alloc, &[3, 5], ".!!", "abcab")?;
-    delivers_so(&rt, alloc, &[9], "...", "abcabcabc")?;
+    let rows: [(&[u64], &str, &str); 5] = [
+        (&[], "...", "abcabcabc"),
+        (&[0], "!..", "abcabc"),
+        (&[2], "!..", "ababcabc"),
+        (&[3, 5], ".!!", "abcab"),
+        (&[9], "...", "abcabcabc"),
+    ];
+    for (stops, want, kept) in rows {
+        delivers_so(&rt, rt.alloc(), stops, want, kept)?;
+    }
     Ok(())
 }
 

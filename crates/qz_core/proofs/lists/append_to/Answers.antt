@@ -1,4 +1,4 @@
-use Rattle.std.proofs.Common.{◌≡◌, ◌++◌, [], ◌∷◌, ap, ◌∙◌, arith}
+use Rattle.std.proofs.Common.{◌++◌, [], ◌∷◌, ap, ◌∙◌, arith}
 use Rattle.qz_core.proofs.Vectors.{lists_after}
 use Rattle.qz_core.proofs.lists.append_to.Goals as goal
 

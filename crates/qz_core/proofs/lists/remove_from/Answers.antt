@@ -1,4 +1,4 @@
-use Rattle.std.proofs.Common.{◌≡◌, ap, ◌∙◌, arith}
+use Rattle.std.proofs.Common.{ap, ◌∙◌, arith}
 use Rattle.std.specs.List.{remove}
 use Rattle.qz_core.proofs.Vectors.{lists_after}
 use Rattle.qz_core.proofs.lists.remove_from.Goals as goal

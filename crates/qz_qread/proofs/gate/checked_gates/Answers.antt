@@ -4,8 +4,8 @@ use Rattle.qz_qread.proofs.Repetitions.{qubits_fit}
 use Rattle.qz_qread.proofs.Steps.{places_of}
 use Rattle.qz_qread.proofs.gate.checked_gates.Goals as goal
 
-pub push_applied-requires-clause-below : goal.push_applied-requires-clause-below
-push_applied-requires-clause-below c = qubits_fit c.args.registers.now c.args.args.now c.requires.few_qubits c.requires.operands c.in_default.ensures
+pub applied-requires-clause-below : goal.applied-requires-clause-below
+applied-requires-clause-below c = qubits_fit c.args.registers.now c.args.args.now c.requires.few_qubits c.requires.operands c.in_default.ensures
 
 pub returns-in-Some : goal.returns-in-Some
 unfolding checked_gates

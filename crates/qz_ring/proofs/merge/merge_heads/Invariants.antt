@@ -1,4 +1,4 @@
-use Rattle.std.proofs.Common.{◌≡◌, ◌+◌, ◌-◌, ◌≤◌, length, drop, vec_capacity}
+use Rattle.std.proofs.Common.{◌+◌, ◌-◌, ◌≤◌, length, drop, vec_capacity}
 use Rattle.qz_ring.specs.Merging.{IsMerging}
 use Rattle.qz_ring.proofs.merge.merge_heads.Given as goal
 

@@ -4,7 +4,7 @@ use Rattle.qz_circ.specs.ProgramCircuits.{program_cmp}
 use Rattle.qz_circ.specs.Queue.{different}
 use Rattle.qz_queue.specs.Circuits.{circuits}
 use Rattle.qz_search.specs.Offers.{is_new, offered_to}
-use Rattle.qz_circ.specs.Replacement.{children}
+use Rattle.qz_search.specs.Tables.{children_by_table}
 use Rattle.qz_search.proofs.RoundLaws.{if_ok_more, queue_rest, round_at}
 use Rattle.qz_search.proofs.rounds.next_round.Goals as goal
 
@@ -13,7 +13,7 @@ offer_batch-requires-clause-lawful c = queue_rest c.args.queue.now c.take_batch.
 
 pub returns : goal.returns
 returns c = λ s at.
-    let next = children c.args.rules.now in
+    let next = children_by_table c.args.rules.now in
     let old = c.args.queue.now in
     let left = c.take_batch.new.self in
     let seen = c.add_all.new.seen in

@@ -3,9 +3,9 @@ use Rattle.qz_circ.specs.ProgramCircuits.{ProgramCircuit}
 use Rattle.qz_circ.specs.Queue.{different, firsts}
 use Rattle.qz_circ.specs.Search.{SearchState, start, after}
 use Rattle.qz_search.specs.Offers.{IsAt}
-use Rattle.qz_circ.specs.Replacement.{children}
-use Rattle.qz_search.proofs.RoundLaws.{one_waits, after_more, found_at, waiting_fit, none_left}
-use Rattle.qz_search.proofs.ChildLaws.{children_keep_gates}
+use Rattle.qz_search.specs.Tables.{children_by_table}
+use Rattle.qz_search.proofs.RoundLaws.{one_waits, after_more, found_at, waiting_fit}
+use Rattle.qz_search.proofs.Alike.{none_left}
 use Rattle.qz_search.proofs.rounds.run.Goals as goal
 
 pub loop-init : goal.loop-init
@@ -24,19 +24,19 @@ loop-init c =
 
 pub returns-then-len-eq0 : goal.returns-then-len-eq0
 returns-then-len-eq0 c =
-    found_at (children c.args.rules.now) c.args.plan c.loop.counter c.args.c.now c.loop.seen c.loop.queue c.loop.best.items c.loop.invariant.0 c.loop.invariant.1 (inr (none_left c.loop.queue.list (sym c.len.ensures.value ∙ c.if-len-eq0.true)))
+    found_at (children_by_table c.args.rules.now) c.args.plan c.loop.counter c.args.c.now c.loop.seen c.loop.queue c.loop.best.items c.loop.invariant.0 c.loop.invariant.1 (inr (none_left c.loop.queue.list (sym c.len.ensures.value ∙ c.if-len-eq0.true)))
 
 pub next_round-requires-clause-fit : goal.next_round-requires-clause-fit
 next_round-requires-clause-fit c =
-    (waiting_fit (children c.args.rules.now) c.args.plan (children_keep_gates 64 c.args.rules.now c.requires.on) c.cap.ensures.lawful c.loop.counter c.args.c.now c.loop.seen c.loop.queue c.loop.best.items c.requires.gates c.requires.few c.loop.invariant.1).0
+    (waiting_fit (children_by_table c.args.rules.now) c.args.plan c.requires.keeps c.cap.ensures.lawful c.loop.counter c.args.c.now c.loop.seen c.loop.queue c.loop.best.items c.requires.gates c.requires.few c.loop.invariant.1).0
 
 pub next_round-requires-clause-short : goal.next_round-requires-clause-short
 next_round-requires-clause-short c =
-    rw c.deref.ensures.value ((waiting_fit (children c.args.rules.now) c.args.plan (children_keep_gates 64 c.args.rules.now c.requires.on) c.cap.ensures.lawful c.loop.counter c.args.c.now c.loop.seen c.loop.queue c.loop.best.items c.requires.gates c.requires.few c.loop.invariant.1).1)
+    rw c.deref.ensures.value ((waiting_fit (children_by_table c.args.rules.now) c.args.plan c.requires.keeps c.cap.ensures.lawful c.loop.counter c.args.c.now c.loop.seen c.loop.queue c.loop.best.items c.requires.gates c.requires.few c.loop.invariant.1).1)
 
 pub loop-preserved : goal.loop-preserved
 loop-preserved c =
-    let next = children c.args.rules.now in
+    let next = children_by_table c.args.rules.now in
     let plan = c.args.plan in
     let n = c.loop.counter in
     let one : n + 1 ≡ suc n = omega arith in
@@ -48,4 +48,4 @@ loop-preserved c =
 
 pub returns : goal.returns
 returns c =
-    found_at (children c.args.rules.now) c.args.plan c.loop.counter c.args.c.now c.loop.seen c.loop.queue c.loop.best.items c.loop.invariant.0 c.loop.invariant.1 (inl (omega (arith, c.loop-test.false, c.rounds-end.ensures.value, c.loop.invariant.0)))
+    found_at (children_by_table c.args.rules.now) c.args.plan c.loop.counter c.args.c.now c.loop.seen c.loop.queue c.loop.best.items c.loop.invariant.0 c.loop.invariant.1 (inl (omega (arith, c.loop-test.false, c.rounds-end.ensures.value, c.loop.invariant.0)))

@@ -5,8 +5,5 @@ use Rattle.qz_equiv.proofs.WorkedValues.{flip_equivalent}
 use Rattle.qz_finger.proofs.Law.{one_fingerprint}
 use Rattle.qz_shard.proofs.worked_values.a_rotation_past_a_flip_keeps_the_fingerprint.Goals as goal
 
-pub returns-clause-equivalent : goal.returns-clause-equivalent
-returns-clause-equivalent _ = flip_equivalent
-
-pub returns-clause-shared : goal.returns-clause-shared
-returns-clause-shared _ seed = one_fingerprint seed 1 (X 0 ∷ Rz 0 (Plus 0) ∷ []) (Rz 0 (Minus 0) ∷ X 0 ∷ []) flip_equivalent
+pub returns : goal.returns
+returns _ seed = one_fingerprint seed 1 (X 0 ∷ Rz 0 (Plus 0) ∷ []) (Rz 0 (Minus 0) ∷ X 0 ∷ []) flip_equivalent

@@ -1,6 +1,5 @@
-use Rattle.std.proofs.Common.{◌∙◌, List, ℕ, refl, subst, sym, ap, Err}
+use Rattle.std.proofs.Common.{◌∙◌, refl, subst, sym, ap, Err}
 use Rattle.std.specs.Io.KnownBytes.{append_known}
-use Rattle.qz_io.specs.Told.{HasProperPart}
 use Rattle.qz_top.specs.Optimise.{Optimises}
 use Rattle.qz_top.specs.Status.{WritesNothing}
 use Rattle.qz_top.proofs.AnswerLemmas.{before_writes_nothing, carried_by_text}
@@ -9,17 +8,14 @@ use Rattle.qz_top.proofs.optimise.optimise.Goals as goal
 
 pub returns-in-Ok-clause-carried_out : goal.returns-in-Ok-clause-carried_out
 returns-in-Ok-clause-carried_out g c =
-    carried_by_text (Optimises c.args.name.now c.args.plan) c.in-Ok.text.items _ _ (optimised_written c.args.plan c.args.name.now c.in-Ok.text.items _ _ c.in-Ok.ensures.made)
-    c.write_text.ensures.begun
-    (λ e. c.write_text.ensures.ok e ∙ ap (append_known (g.O.Sink.written c.args.out.now)) c.deref.ensures.value)
-    (λ k. subst (λ (text : List ℕ). HasProperPart (g.O.Sink.written c.args.out.now) text (g.O.Sink.written c.write_text.new.out)) c.deref.ensures.value (c.write_text.ensures.part k))
-    c.write_text.ensures.failed c.write_text.ensures.answered
+    carried_by_text (Optimises c.args.name.now c.args.plan) c.in-Ok.text.items _ _ _ (optimised_written c.args.plan c.args.name.now c.in-Ok.text.items _ _ c.in-Ok.ensures.made)
+    c.write_text.ensures.begun c.deref.ensures.value c.write_text.ensures.written
 
 pub returns-in-Ok-clause-optimised : goal.returns-in-Ok-clause-optimised
 returns-in-Ok-clause-optimised g c = λ e. record {
   text = c.in-Ok.text.items;
   optimised = c.in-Ok.ensures.made;
-  whole = c.write_text.ensures.ok e ∙ ap (append_known (g.O.Sink.written c.args.out.now)) c.deref.ensures.value;
+  whole = c.write_text.ensures.written.whole e ∙ ap (append_known (g.O.Sink.written c.args.out.now)) c.deref.ensures.value;
 }
 
 pub returns-in-Ok-clause-before : goal.returns-in-Ok-clause-before

@@ -1,11 +1,11 @@
 use Rattle.std.proofs.Common.{refl, ap, Ok, Err}
-use Rattle.qz_top.specs.Answer.{storage_of}
+use Rattle.qz_top.specs.Answer.{shelf_shown}
 use Rattle.qz_top.proofs.OptimiseLemmas.{file_missing, file_unopened, taken_open, told_is_found, taken_unopened}
 use Rattle.qz_top.proofs.optimise.rules_in.Goals as goal
 
 pub returns-in-Ok-true-clause-made : goal.returns-in-Ok-true-clause-made
 returns-in-Ok-true-clause-made g c = λ plan.
-    c.rules_in_open_file.ensures.made c.args.name.now plan (storage_of g.F.Shelf.files g.F.Shelf.faults g.F.Shelf.answers_faults c.args.shelf.now c.open.new.self)
+    c.rules_in_open_file.ensures.made c.args.name.now plan (shelf_shown g.F.Shelf c.args.shelf.now c.open.new.self)
     (record {
       found = rw c.in-Ok-true.field-0-test at c.in-Ok-true.ensures.found;
       whole = c.in-Ok-true.ensures.whole (ap Ok c.in-Ok-true.field-0-test);

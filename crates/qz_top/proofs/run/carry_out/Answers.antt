@@ -1,6 +1,6 @@
 use Rattle.std.proofs.Common.{subst, map, string_bytes, refl, ap, inl, inr}
-use Rattle.qz_io.specs.Transfers.{input_of}
-use Rattle.qz_top.specs.Answer.{storage_of}
+use Rattle.qz_io.specs.Transfers.{source_shown}
+use Rattle.qz_top.specs.Answer.{shelf_shown}
 use Rattle.qz_top.specs.declared.words.Command.TheVariants.{Tidy, Optimise, Trial}
 use Rattle.qz_top.specs.Reports.{end_text}
 use Rattle.qz_top.specs.Words.{IsLawfulCommand}
@@ -11,8 +11,8 @@ use Rattle.qz_top.proofs.run.carry_out.Goals as goal
 
 pub returns-in-Generate-clause-carried_out : goal.returns-in-Generate-clause-carried_out
 returns-in-Generate-clause-carried_out g c =
-    rw c.in-Generate.is (c.generate.ensures.carried_out (input_of g.I.Source.left g.I.Source.faults g.I.Source.answers_faults c.args.input.now c.args.input.now)
-    (storage_of g.F.Shelf.files g.F.Shelf.faults g.F.Shelf.answers_faults c.args.shelf.now c.args.shelf.now) refl refl)
+    rw c.in-Generate.is (c.generate.ensures.carried_out (source_shown g.I.Source c.args.input.now c.args.input.now)
+    (shelf_shown g.F.Shelf c.args.shelf.now c.args.shelf.now) refl refl)
 
 pub returns-in-Generate-clause-told : goal.returns-in-Generate-clause-told
 returns-in-Generate-clause-told g c = rw c.in-Generate.is (record { done = c.generate.ensures.report; not_done = λ n. ap (end_text c.generate.result.0) (c.generate.ensures.no_report n) })
@@ -28,7 +28,7 @@ returns-in-Trial-clause-told g c = rw c.in-Trial.is (status_for_err (Trial _ _ _
 
 pub returns-in-Tidy-clause-carried_out : goal.returns-in-Tidy-clause-carried_out
 returns-in-Tidy-clause-carried_out g c =
-    rw c.in-Tidy.is (c.tidy.ensures.carried_out (storage_of g.F.Shelf.files g.F.Shelf.faults g.F.Shelf.answers_faults c.args.shelf.now c.args.shelf.now) refl)
+    rw c.in-Tidy.is (c.tidy.ensures.carried_out (shelf_shown g.F.Shelf c.args.shelf.now c.args.shelf.now) refl)
 
 pub returns-in-Tidy-clause-shelf_fault : goal.returns-in-Tidy-clause-shelf_fault
 returns-in-Tidy-clause-shelf_fault g c = λ e. absurd (still_not_rose ((c.tidy.ensures.carried_out still refl).shelf_failed e))
@@ -42,19 +42,13 @@ returns-in-Tidy-clause-read_fault g c = λ _. rw c.in-Tidy.is tt
 pub returns-in-Tidy-clause-before : goal.returns-in-Tidy-clause-before
 returns-in-Tidy-clause-before g c = λ b. absurd (c.tidy.ensures.late b)
 
-pub trial-requires-clause-some : goal.trial-requires-clause-some
-trial-requires-clause-some g c = (subst IsLawfulCommand c.in-Trial.is c.requires.lawful).some
-
-pub trial-requires-clause-few : goal.trial-requires-clause-few
-trial-requires-clause-few g c = (subst IsLawfulCommand c.in-Trial.is c.requires.lawful).few
-
-pub trial-requires-clause-short : goal.trial-requires-clause-short
-trial-requires-clause-short g c = (subst IsLawfulCommand c.in-Trial.is c.requires.lawful).short
+pub trial-requires : goal.trial-requires
+trial-requires g c = subst IsLawfulCommand c.in-Trial.is c.requires.lawful
 
 pub returns-in-Trial-clause-carried_out : goal.returns-in-Trial-clause-carried_out
 returns-in-Trial-clause-carried_out g c =
-    rw c.in-Trial.is (c.trial.ensures.carried_out (input_of g.I.Source.left g.I.Source.faults g.I.Source.answers_faults c.args.input.now c.args.input.now)
-    (storage_of g.F.Shelf.files g.F.Shelf.faults g.F.Shelf.answers_faults c.args.shelf.now c.args.shelf.now) refl refl)
+    rw c.in-Trial.is (c.trial.ensures.carried_out (source_shown g.I.Source c.args.input.now c.args.input.now)
+    (shelf_shown g.F.Shelf c.args.shelf.now c.args.shelf.now) refl refl)
 
 pub returns-in-Trial-clause-unread : goal.returns-in-Trial-clause-unread
 returns-in-Trial-clause-unread g c = inl refl

@@ -24,15 +24,15 @@ returns-in-Ok-clause-read_fault g c = λ e. words_need (map string_bytes c.args.
 pub returns-in-Ok-clause-err_answer : goal.returns-in-Ok-clause-err_answer
 returns-in-Ok-clause-err_answer g c = λ given answer is same.
     let own = answer_tells (map string_bytes c.args.words.now) c.in-Ok.command _ _ c.in-Ok.ensures.command c.carry_out-status.ensures.told given answer is same in
-    tells_same _ _ own c.tell_end.ensures.part c.tell_end.ensures.whole
+    tells_same _ _ own c.tell_end.ensures.told
 
 pub returns-in-Ok-clause-err_status : goal.returns-in-Ok-clause-err_status
-returns-in-Ok-clause-err_status g c = λ n. tells_same _ _ (sym (c.carry_out-status.ensures.told.not_done n)) c.tell_end.ensures.part c.tell_end.ensures.whole
+returns-in-Ok-clause-err_status g c = λ n. tells_same _ _ (sym (c.carry_out-status.ensures.told.not_done n)) c.tell_end.ensures.told
 
 pub returns-in-Ok-clause-report : goal.returns-in-Ok-clause-report
 returns-in-Ok-clause-report g c = λ b workers seed is done.
     let command = same_command (map string_bytes c.args.words.now) c.in-Ok.command _ c.in-Ok.ensures.command is in
-    (_, report_told c.in-Ok.command b workers seed _ command (c.carry_out-status.ensures.told.done done), tells_same _ _ refl c.tell_end.ensures.part c.tell_end.ensures.whole)
+    (_, report_told c.in-Ok.command b workers seed _ command (c.carry_out-status.ensures.told.done done), c.tell_end.ensures.told)
 
 pub returns-in-Ok-clause-err_done : goal.returns-in-Ok-clause-err_done
 returns-in-Ok-clause-err_done g c = λ done none.
@@ -41,10 +41,10 @@ returns-in-Ok-clause-err_done g c = λ done none.
 
 pub returns-in-Err-clause-err_answer : goal.returns-in-Err-clause-err_answer
 returns-in-Err-clause-err_answer g c = λ given answer is same.
-    tells_same _ _ (refusal_told (map string_bytes c.args.words.now) c.in-Err.fault c.in-Err.ensures.command given answer is ∙ sym (ap status_text c.status_of_words-status.ensures)) c.tell.ensures.part c.tell.ensures.whole
+    tells_same _ _ (refusal_told (map string_bytes c.args.words.now) c.in-Err.fault c.in-Err.ensures.command given answer is ∙ sym (ap status_text c.status_of_words-status.ensures)) c.tell.ensures.told
 
 pub returns-in-Err-clause-err_status : goal.returns-in-Err-clause-err_status
-returns-in-Err-clause-err_status g c = λ n. tells_same _ _ refl c.tell.ensures.part c.tell.ensures.whole
+returns-in-Err-clause-err_status g c = λ n. c.tell.ensures.told
 
 pub returns-in-Err-clause-carried_out : goal.returns-in-Err-clause-carried_out
 returns-in-Err-clause-carried_out g c =

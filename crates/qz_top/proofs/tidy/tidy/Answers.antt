@@ -1,6 +1,4 @@
-use Rattle.std.proofs.Common.{◌∙◌, List, ℕ, refl, subst, ap}
-use Rattle.std.specs.Io.KnownBytes.{append_known}
-use Rattle.qz_io.specs.Told.{HasProperPart}
+use Rattle.std.proofs.Common.{refl}
 use Rattle.qz_top.specs.Tidy.{Tidies}
 use Rattle.qz_top.proofs.AnswerLemmas.{before_writes_nothing, carried_by_text}
 use Rattle.qz_top.proofs.InputLemmas.{ends_late, ends_undone}
@@ -9,11 +7,8 @@ use Rattle.qz_top.proofs.tidy.tidy.Goals as goal
 
 pub returns-in-Ok-clause-carried_out : goal.returns-in-Ok-clause-carried_out
 returns-in-Ok-clause-carried_out g c = λ shelf quiet.
-    carried_by_text Tidies c.in-Ok.text.items _ _ (tidied_written c.in-Ok.text.items _ shelf c.in-Ok.ensures.made quiet)
-    c.write_text.ensures.begun
-    (λ e. c.write_text.ensures.ok e ∙ ap (append_known (g.O.Sink.written c.args.out.now)) c.deref.ensures.value)
-    (λ k. subst (λ (text : List ℕ). HasProperPart (g.O.Sink.written c.args.out.now) text (g.O.Sink.written c.write_text.new.out)) c.deref.ensures.value (c.write_text.ensures.part k))
-    c.write_text.ensures.failed c.write_text.ensures.answered
+    carried_by_text Tidies c.in-Ok.text.items _ _ _ (tidied_written c.in-Ok.text.items _ shelf c.in-Ok.ensures.made quiet)
+    c.write_text.ensures.begun c.deref.ensures.value c.write_text.ensures.written
 
 pub returns-in-Ok-clause-late : goal.returns-in-Ok-clause-late
 returns-in-Ok-clause-late g c = λ b. c.write_text.ensures.begun (before_writes_nothing c.write_text.result b)

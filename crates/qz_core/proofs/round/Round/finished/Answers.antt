@@ -1,4 +1,4 @@
-use Rattle.std.proofs.Common.{◌≡◌, sym, ◌∙◌, arith}
+use Rattle.std.proofs.Common.{sym, ◌∙◌, arith}
 use Rattle.qz_core.proofs.Vectors.{all_empty}
 use Rattle.qz_core.proofs.round.Round.finished.Goals as goal
 

@@ -1,10 +1,9 @@
-use Rattle.std.proofs.Common.{◌≡◌, ◌<◌, ◌==◌, true, false, true≢false, [], None, Some, length, get_or, set, refl, sym, ap, subst, ◌∙◌, arith}
+use Rattle.std.proofs.Common.{◌≡◌, ◌<◌, ◌==◌, true, false, true≢false, [], length, get_or, set, refl, sym, ap, subst, ◌∙◌}
 use Rattle.std.specs.List.{remove, list_any}
 use Rattle.std.specs.Set.{remove_key}
-use Rattle.std.proofs.lemmas.List.{get_or-map}
 use Rattle.qz_core.specs.HeldRound.{lists_of, round_of}
 use Rattle.qz_core.specs.RoundMachine.{RoundState, with_entry, is_pending, put, IsRound}
-use Rattle.qz_core.proofs.Rounds.{put_none, pending_is, put_keeps_round}
+use Rattle.qz_core.proofs.Rounds.{put_none, pending_is, put_keeps}
 use Rattle.qz_core.proofs.Vectors.{place_none, place_some}
 use Rattle.qz_core.proofs.HeldRounds.{put_state, held, pending_of}
 use Rattle.qz_core.proofs.round.Round.put.Goals as goal
@@ -46,7 +45,7 @@ state c =
 
 round : (c : goal.After-append_to) → IsRound (length (old c).pending) (put (old c) c.args.worker c.args.r)
 unfolding old
-round c = put_keeps_round _ _ _ c.args.r (rw (← c.self.view_is) at c.requires) c.self.invariant.round
+round c = put_keeps _ _ _ c.args.r (rw (← c.self.view_is) at c.requires) c.self.invariant.round
 
 pub invariant_of-self : goal.invariant_of-self
 unfolding old

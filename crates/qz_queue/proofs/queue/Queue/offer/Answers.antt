@@ -6,47 +6,44 @@ use Rattle.qz_queue.specs.HeldQueue.{queue_of}
 use Rattle.qz_queue.proofs.QueueLists.{list_put, held_first, early, queue_ordered, offer_late, offer_there, same_list, among_contains, accepted}
 use Rattle.qz_queue.proofs.queue.Queue.offer.Goals as goal
 
-pub place-place-requires : goal.place-place-requires
-place-place-requires c = rw c.deref.ensures.value (queue_ordered _ _ c.self.invariant.lawful.ordered)
-
-pub is_there-requires-clause-ordered : goal.is_there-requires-clause-ordered
-is_there-requires-clause-ordered c = rw c.deref-3.ensures.value (queue_ordered _ _ c.self.invariant.lawful.ordered)
+pub find-place-requires : goal.find-place-requires
+find-place-requires c = rw c.deref.ensures.value (queue_ordered _ _ c.self.invariant.lawful.ordered)
 
 pub returns-then-place-self-clause-list : goal.returns-then-place-self-clause-list
 returns-then-place-self-clause-list c =
     let cs = circuits c.self.inside.list.items in
-    let at : c.place-place.result ≡ place_of cs c.args.c.items = rw (c.deref.ensures.value, c.deref-2.ensures.value) at c.place-place.ensures.place in
+    let at : c.find-place.result.0 ≡ place_of cs c.args.c.items = rw (c.deref.ensures.value, c.deref-2.ensures.value) at c.find-place.ensures.place in
     let late : c.self.inside.cap ≤ place_of cs c.args.c.items = omega (arith, at, c.if-place-self.true) in
     rw (← c.self.view_is) (same_list _ _ (offer_late c.self.inside.cap cs c.args.c.items c.self.invariant.lawful.ordered late))
 
 pub returns-then-place-self-clause-refused : goal.returns-then-place-self-clause-refused
 returns-then-place-self-clause-refused c =
     let cs = circuits c.self.inside.list.items in
-    let at : c.place-place.result ≡ place_of cs c.args.c.items = rw (c.deref.ensures.value, c.deref-2.ensures.value) at c.place-place.ensures.place in
+    let at : c.find-place.result.0 ≡ place_of cs c.args.c.items = rw (c.deref.ensures.value, c.deref-2.ensures.value) at c.find-place.ensures.place in
     rw (← c.self.view_is) (λ _. inr (omega (arith, at, c.if-place-self.true)), λ _. refl)
 
-pub returns-then-is_there-clause-list : goal.returns-then-is_there-clause-list
-returns-then-is_there-clause-list c =
+pub returns-then-found-clause-list : goal.returns-then-found-clause-list
+returns-then-found-clause-list c =
     let cs = circuits c.self.inside.list.items in
-    let there : is_among cs c.args.c.items ≡ true = rw (c.deref-3.ensures.value, c.deref-4.ensures.value) at (sym c.is_there.ensures ∙ c.if-is_there.true) in
+    let there : is_among cs c.args.c.items ≡ true = rw (c.deref.ensures.value, c.deref-2.ensures.value) at (sym c.find-place.ensures.there ∙ c.if-found.true) in
     rw (← c.self.view_is) (same_list _ _ (offer_there c.self.inside.cap cs c.args.c.items c.self.invariant.lawful.ordered there))
 
-pub returns-then-is_there-clause-refused : goal.returns-then-is_there-clause-refused
-returns-then-is_there-clause-refused c =
+pub returns-then-found-clause-refused : goal.returns-then-found-clause-refused
+returns-then-found-clause-refused c =
     let cs = circuits c.self.inside.list.items in
-    let there : is_among cs c.args.c.items ≡ true = rw (c.deref-3.ensures.value, c.deref-4.ensures.value) at (sym c.is_there.ensures ∙ c.if-is_there.true) in
+    let there : is_among cs c.args.c.items ≡ true = rw (c.deref.ensures.value, c.deref-2.ensures.value) at (sym c.find-place.ensures.there ∙ c.if-found.true) in
     rw (← c.self.view_is) (λ _. inl (among_contains cs c.args.c.items there), λ _. refl)
 
 pub put-requires-clause-below : goal.put-requires-clause-below
 put-requires-clause-below c =
-    early c.self.inside.cap c.self.inside.list.items c.place-place.result c.self.invariant.lawful.ordered (rw c.deref.ensures.value at c.place-place.ensures.bound) c.if-place-self.false
+    early c.self.inside.cap c.self.inside.list.items c.find-place.result.0 c.self.invariant.lawful.ordered (rw c.deref.ensures.value at c.find-place.ensures.bound) c.if-place-self.false
 
 put_list : (c : goal.After-put) → circuits c.put.new.list.items ≡ firsts c.self.inside.cap (c.args.c.items ∷ circuits c.self.inside.list.items)
 put_list c =
     let cs = circuits c.self.inside.list.items in
-    let at : c.place-place.result ≡ place_of cs c.args.c.items = rw (c.deref.ensures.value, c.deref-2.ensures.value) at c.place-place.ensures.place in
-    let missing : is_among cs c.args.c.items ≡ false = rw (c.deref-3.ensures.value, c.deref-4.ensures.value) at (sym c.is_there.ensures ∙ c.if-is_there.false) in
-    list_put c.self.inside.cap c.self.inside.list.items c.args.c c.place-place.result c.put.new.list.items c.self.invariant.lawful.ordered at (rw c.deref.ensures.value at c.place-place.ensures.bound) c.if-place-self.false missing c.put.ensures.items
+    let at : c.find-place.result.0 ≡ place_of cs c.args.c.items = rw (c.deref.ensures.value, c.deref-2.ensures.value) at c.find-place.ensures.place in
+    let missing : is_among cs c.args.c.items ≡ false = rw (c.deref.ensures.value, c.deref-2.ensures.value) at (sym c.find-place.ensures.there ∙ c.if-found.false) in
+    list_put c.self.inside.cap c.self.inside.list.items c.args.c c.find-place.result.0 c.put.new.list.items c.self.invariant.lawful.ordered at (rw c.deref.ensures.value at c.find-place.ensures.bound) c.if-place-self.false missing c.put.ensures.items
 
 pub invariant_of-self : goal.invariant_of-self
 invariant_of-self c =
@@ -60,7 +57,7 @@ returns-clause-list c =
 pub returns-clause-refused : goal.returns-clause-refused
 returns-clause-refused c =
     let q = queue_of c.self.inside.cap c.self.inside.list in
-    let at : c.place-place.result ≡ place_of q.list c.args.c.items = rw (c.deref.ensures.value, c.deref-2.ensures.value) at c.place-place.ensures.place in
-    let missing : is_among q.list c.args.c.items ≡ false = rw (c.deref-3.ensures.value, c.deref-4.ensures.value) at (sym c.is_there.ensures ∙ c.if-is_there.false) in
-    let below = early q.cap c.self.inside.list.items c.place-place.result c.self.invariant.lawful.ordered (rw c.deref.ensures.value at c.place-place.ensures.bound) c.if-place-self.false in
+    let at : c.find-place.result.0 ≡ place_of q.list c.args.c.items = rw (c.deref.ensures.value, c.deref-2.ensures.value) at c.find-place.ensures.place in
+    let missing : is_among q.list c.args.c.items ≡ false = rw (c.deref.ensures.value, c.deref-2.ensures.value) at (sym c.find-place.ensures.there ∙ c.if-found.false) in
+    let below = early q.cap c.self.inside.list.items c.find-place.result.0 c.self.invariant.lawful.ordered (rw c.deref.ensures.value at c.find-place.ensures.bound) c.if-place-self.false in
     rw (← c.self.view_is) (λ e. absurd (true≢false (sym c.put.ensures.always ∙ e)), λ refused. absurd (accepted q c.args.c.items missing (omega (arith, at, below)) refused))

@@ -1,7 +1,0 @@
-use Rattle.std.proofs.Common.{◌≡◌, take}
-use Rattle.qz_circ.specs.RuleFiles.{numbered_class}
-use Rattle.qz_search.specs.PreparedRules.{rule_circuits}
-use Rattle.qz_search.proofs.prepared.members_of.Given as goal
-
-abbrev pub invariant-loop-k : goal.invariant-loop-k
-invariant-loop-k l = rule_circuits l.members.items ≡ take l.k (numbered_class l.rules.classes l.c)
