@@ -59,23 +59,18 @@ claims_both v u w is terms r =
     (subst (λ t. HasClaimed (joined v u) r ↔ (HasClaimed v r ⊎ IsDrawn t.names u.drawn r)) (sym terms)
     (drawn_both v.terms.names v.drawn u.drawn r))
 
--- and their receipts
-pub receipts_both : (v u w : View) → w ≡ joined v u → (r : ℕ) → HasReceipt w r ↔ (HasReceipt v r ⊎ HasReceipt u r)
-receipts_both v u w is r =
-    let sum = sum_by-append (λ (x : ReceiptParts). cond {A = ℕ} (x.item == r) 1 0) v.receipts u.receipts in
-    let all : with_item r w ≡ with_item r v + with_item r u = ap (with_item r) is ∙ sum in (
-      λ h. dite (ℕ_discrete (with_item r v) 0)
-          (λ none. inr (omega arith))
-          (λ some. inl (omega arith)),
-      λ h. elim h [ inl old ↦ omega arith | inr new ↦ omega arith ],
-    )
-
--- the rank of a receipt has one, and all that had one have
-pub receipts_more : (v w : View) (receipt : ReceiptParts) → w ≡ record v { receipts = v.receipts ++ receipt ∷ [] } → HasReceipt w receipt.item × ((r : ℕ) → HasReceipt v r → HasReceipt w r)
-receipts_more v w receipt is =
-    let sum = λ (r : ℕ). ap (with_item r) is ∙ sum_by_push (λ (x : ReceiptParts). cond {A = ℕ} (x.item == r) 1 0) v.receipts receipt in (
-      (let here : cond {A = ℕ} (receipt.item == receipt.item) 1 0 ≡ 1 = ap (λ b. cond {A = ℕ} b 1 0) (eq-eqb receipt.item receipt.item refl) in omega (arith, sum receipt.item)),
-      λ r h. omega (arith, h, sum r),
+-- after a put the rank has a receipt too
+pub receipts_more : (v w : View) (receipt : ReceiptParts) (r : ℕ) → receipt.item ≡ r → w ≡ record v { receipts = v.receipts ++ receipt ∷ [] }
+    → (x : ℕ) → HasReceipt w x ↔ (HasReceipt v x ⊎ (r ≡ x))
+receipts_more v w receipt r item is x =
+    let sum = ap (with_item x) is ∙ sum_by_push (λ (y : ReceiptParts). cond {A = ℕ} (y.item == x) 1 0) v.receipts receipt in (
+      λ h. dite (ℕ_discrete r x)
+          (λ e. inr e)
+          (λ ne. inl (let none : cond {A = ℕ} (receipt.item == x) 1 0 ≡ 0 = ap (λ b. cond {A = ℕ} b 1 0) (ne_eqb receipt.item x (λ e. ne (sym item ∙ e))) in omega (arith, h, sum))),
+      λ h. elim h [
+        | inl old ↦ omega (arith, old, sum)
+        | inr e ↦ (let one : cond {A = ℕ} (receipt.item == x) 1 0 ≡ 1 = ap (λ b. cond {A = ℕ} b 1 0) (eq-eqb receipt.item x (item ∙ e)) in omega (arith, sum))
+      ],
     )
 
 -- the rank that is read at a number below the limit

@@ -14,6 +14,7 @@ use Rattle.qz_store.specs.Stores.{StoreParts, list_of, old_journal, HasClaimed}
 use Rattle.qz_store.specs.Opening.{IsNumber}
 use Rattle.qz_store.specs.Closing.{IsGrownShard, IsKeptReceipt, IsClosedStore}
 use Rattle.qz_store.specs.HeldStore.{shard_mark, IsStore}
+use Rattle.qz_store.proofs.Counted.{receipt_there, receipt_after, items_differ}
 use Rattle.qz_store.proofs.Lifted.{has_names, lifted_number}
 use Rattle.qz_store.proofs.Places.{all_at, mapped_at}
 
@@ -35,7 +36,7 @@ module _ (s : StoreParts) (list : List ℕ) (room : List ShardParts) (capacity :
         subst (IsGrownShard s v k) there.2 (record {
           after = grown.after;
           is = (λ i. record { number = number.number_is i; bounds = number.bounds_are i; probe = number.probe_is i; journal = journal i });
-          places = λ p. grown.places p ∙ ap (λ t. between p (length (opening_of t k)) (length (S there.0).journal)) terms;
+          receipt_at = λ p. receipt_there v k p (length (old_journal s k)) (length (S there.0).journal) (grown.places p ∙ ap (λ t. between p (length (opening_of t k)) (length (S there.0).journal)) terms);
         })
 
     module _ (are : All IsShard (map S values)) where
@@ -50,6 +51,8 @@ module _ (s : StoreParts) (list : List ℕ) (room : List ShardParts) (capacity :
           record {
             claimed = closed.named (λ e. has_names s list room capacity store (sym (ap (λ t. t.names) terms) ∙ e)) k d inside;
             home = sym number.number_is ∙ (sym home ∙ (λ i. home_of (number.bounds_are i) (number.probe_is i).seed receipt.item));
+            new = receipt_after v k d inside (length (old_journal s receipt.shard)) (length shard.journal)
+                (λ p. (closed.grown receipt.shard stands.0 stands.1).places p ∙ ap (λ t. between p (length (opening_of t receipt.shard)) (length shard.journal)) terms);
             shard = shard;
             at = at;
             stands = stands.2;
@@ -66,6 +69,6 @@ module _ (s : StoreParts) (list : List ℕ) (room : List ShardParts) (capacity :
         count = length-map values S ∙ count;
         grown = grown_at;
         receipts = receipt_kept;
-        once = closed.apart (λ e. has_names s list room capacity store (sym (ap (λ t. t.names) terms) ∙ e));
+        once = items_differ v.receipts (closed.apart (λ e. has_names s list room capacity store (sym (ap (λ t. t.names) terms) ∙ e)));
         ended = claimed_all;
       }

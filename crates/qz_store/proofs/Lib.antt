@@ -1,5 +1,6 @@
 pub mod Claimed
 pub mod Closed
+pub mod Counted
 pub mod Lifted
 pub mod Moved
 pub mod Opened

@@ -10,7 +10,7 @@ use Rattle.qz_circ.specs.Order.{all_circuits}
 use Rattle.qz_finger.specs.Fingerprint.{ProbeParts}
 use Rattle.qz_seats.specs.declared.view.View.{View}
 use Rattle.qz_seats.specs.Receipts.{ReceiptParts}
-use Rattle.qz_seats.specs.Views.{with_item, taking, adding, giving}
+use Rattle.qz_seats.specs.Views.{with_item, taking, adding}
 use Rattle.qz_seats.specs.SeatRule.{times, opening_of, mark_of, IsAt}
 use Rattle.qz_seats.specs.Steps.{IsLifted}
 use Rattle.qz_shard.specs.Shards.{ShardParts}
@@ -88,7 +88,3 @@ pub put_becomes : (v lifted w : View) (i : ℕ) (journal : List ℕ) (receipt : 
     → w ≡ record v { receipts = v.receipts ++ receipt ∷ [] }
 put_becomes v lifted w i journal receipt free took is =
     is ∙ (ap (λ u. adding u receipt) took ∙ ap (λ h. record v { held = h; receipts = v.receipts ++ receipt ∷ [] }) (sym free))
-
--- or is as it was
-pub same_becomes : (v lifted w : View) (i : ℕ) (journal : List ℕ) → v.held ≡ None → lifted ≡ taking v i journal → w ≡ giving lifted → w ≡ v
-same_becomes v lifted w i journal free took is = is ∙ (ap giving took ∙ ap (λ h. record v { held = h }) (sym free))
