@@ -1,8 +1,9 @@
 //! What `optimise` writes for some programs, why it refuses some rule files without reading the input, and how it ends where the
 //! outside fails.
+ghost use Rattle.std.specs.Prelude.{true, None};
 
 use qz_circ::{Inst, Memory, QasmFault, RuleFault, Which};
-use qz_io::{MemShelf, MemSink, MemSource, Named, SureSink};
+use qz_io::{IoFault, MemShelf, MemSink, MemSource, Named, Shelf, SureSink};
 use qz_rulefile::{Rules, read};
 use qz_samples::{measured_lines, two_gates, two_registers};
 use qz_search::{Plan, search};
@@ -12,11 +13,11 @@ use std::process::Abort;
 use std::test::Fail;
 
 // The next functions hide the clauses of what is tested: a test that knows less is proved sooner.
-fn answer(
+fn answer<F: Shelf>(
     alloc: Global,
     words: &[String],
     input: &mut MemSource,
-    shelf: &mut MemShelf,
+    shelf: &mut F,
     out: &mut MemSink,
 ) -> Status {
     let mut err = SureSink::new(alloc);
@@ -58,10 +59,10 @@ fn files(alloc: Global, first: &str, second: &str) -> Result<Vec<Named>, AllocEr
 }
 
 // Whether the words end so on this shelf, where nothing is read of the input and nothing is written.
-fn ends(
+fn ends<F: Shelf>(
     alloc: Global,
     name: &str,
-    shelf: &mut MemShelf,
+    shelf: &mut F,
     status: Status,
 ) -> Result<bool, AllocError> {
     let words = words_with(alloc, name)?;
@@ -113,182 +114,112 @@ fn input_ends(
     Ok(end == status && written(&out).is_empty())
 }
 
-// A file with this text makes the words end so.
-fn check(rt: &impl Abort, alloc: Global, file: &str, status: Status) {
-    assert!(rt;
-        file_ends(alloc, file, status).unwrap_or(false),
-        "{status:?}"
-    );
+// Each file makes the words end so.
+fn refuses(rt: &impl Abort, alloc: Global, rows: &[(&str, Status)]) {
+    for (file, status) in rows {
+        let ended = file_ends(alloc, file, *status).unwrap_or(false);
+        assert!(rt; ended, "{status:?}");
+    }
 }
 
-// The file with these lines after the first has its fault at this place.
-fn check_syntax(rt: &impl Abort, alloc: Global, lines: &str, place: u64) -> Result<(), AllocError> {
+// Whether the file with these lines after the first has its fault at this place.
+fn has_fault_at(alloc: Global, lines: &str, place: u64) -> Result<bool, AllocError> {
     let mut file = String::from_str(alloc, "quartz-rules 1\n")?;
     file.push_str(lines)?;
-    check(rt, alloc, file.as_str(), Status::RuleSyntax { place });
-    Ok(())
+    file_ends(alloc, file.as_str(), Status::RuleSyntax { place })
+}
+
+// Lines after the first, and the place of their fault. A letter that begins no gate within the bounds is a fault there.
+fn faulty_lines() -> [(&'static str, u64); 14] {
+    [
+        ("bounds 02 1 0\nclasses 0\nend\n", 23),
+        ("bounds 1234567890 1 0\n", 31),
+        ("bounds 0 1 0\nclasses 0\nend\n\n", 42),
+        ("bounds 2 1 0\nclasses 1\nclass 2\n", 46),
+        ("bounds 1 1 0\nclasses 1\nclass 1\nh 0\nend\n", 45),
+        ("bounds 1 1 0\nclasses 1\nclass 0\nend\n", 44),
+        ("bounds 2 1 0\nclasses 1\nclass 2\n-\nh 1;h 0\nend\n", 50),
+        ("bounds 0 1 0\nclasses 1\nclass 2\n-\nh 0\nend\n", 48),
+        ("bounds 1 1 0\nclasses 1\nclass 2\nh 0;h 0\nx 0\nend\n", 49),
+        ("bounds 2 1 0\nclasses 1\nclass 2\ncx 0 1\nh 0\nend\n", 46),
+        ("bounds 2 2 0\nclasses 1\nclass 2\ncx 0 0\nh 0\nend\n", 51),
+        ("bounds 2 1 0\nclasses 1\nclass 2\nrz(p0) 0\nh 0\nend\n", 49),
+        ("bounds 2 1 1\nclasses 1\nclass 2\nrz(p1) 0\nh 0\nend\n", 50),
+        ("bounds 1 1 0\nclasses 1\nclass 2\nrz(0) 0\nx 0\nend\n", 49),
+    ]
 }
 
 #[test]
-fn places_faults_of_first_lines(rt: HostRuntime) -> Result<(), Fail> {
-    let alloc = rt.alloc();
-    check(&rt, alloc, "", Status::RuleSyntax { place: 0 });
+fn places_faults_of_rule_files(rt: HostRuntime) {
     let version = Status::RuleSyntax { place: 13 };
-    check(&rt, alloc, "quartz-rules 3\nbounds 2 1 0\n", version);
-    check_syntax(&rt, alloc, "bounds 02 1 0\nclasses 0\nend\n", 23)?;
-    check_syntax(&rt, alloc, "bounds 1234567890 1 0\n", 31)?;
-    Ok(())
+    let rows = [
+        ("", Status::RuleSyntax { place: 0 }),
+        ("quartz-rules 3\nbounds 2 1 0\n", version),
+    ];
+    refuses(&rt, rt.alloc(), &rows);
+    for (lines, place) in faulty_lines() {
+        let placed = has_fault_at(rt.alloc(), lines, place).unwrap_or(false);
+        assert!(rt; placed, "{lines}");
+    }
 }
 
 #[test]
-fn places_faults_of_classes(rt: HostRuntime) -> Result<(), Fail> {
-    let alloc = rt.alloc();
-    check_syntax(&rt, alloc, "bounds 0 1 0\nclasses 0\nend\n\n", 42)?;
-    check_syntax(&rt, alloc, "bounds 2 1 0\nclasses 1\nclass 2\n", 46)?;
-    check_syntax(
-        &rt,
-        alloc,
-        "bounds 1 1 0\nclasses 1\nclass 1\nh 0\nend\n",
-        45,
-    )?;
-    check_syntax(&rt, alloc, "bounds 1 1 0\nclasses 1\nclass 0\nend\n", 44)?;
-    Ok(())
-}
-
-// A letter that begins no gate within the bounds is a fault there.
-#[test]
-fn places_faults_of_gates(rt: HostRuntime) -> Result<(), Fail> {
-    let alloc = rt.alloc();
-    check_syntax(
-        &rt,
-        alloc,
-        "bounds 2 1 0\nclasses 1\nclass 2\n-\nh 1;h 0\nend\n",
-        50,
-    )?;
-    check_syntax(
-        &rt,
-        alloc,
-        "bounds 0 1 0\nclasses 1\nclass 2\n-\nh 0\nend\n",
-        48,
-    )?;
-    check_syntax(
-        &rt,
-        alloc,
-        "bounds 1 1 0\nclasses 1\nclass 2\nh 0;h 0\nx 0\nend\n",
-        49,
-    )?;
-    check_syntax(
-        &rt,
-        alloc,
-        "bounds 2 1 0\nclasses 1\nclass 2\ncx 0 1\nh 0\nend\n",
-        46,
-    )?;
-    check_syntax(
-        &rt,
-        alloc,
-        "bounds 2 2 0\nclasses 1\nclass 2\ncx 0 0\nh 0\nend\n",
-        51,
-    )?;
-    check_syntax(
-        &rt,
-        alloc,
-        "bounds 2 1 0\nclasses 1\nclass 2\nrz(p0) 0\nh 0\nend\n",
-        49,
-    )?;
-    check_syntax(
-        &rt,
-        alloc,
-        "bounds 2 1 1\nclasses 1\nclass 2\nrz(p1) 0\nh 0\nend\n",
-        50,
-    )?;
-    check_syntax(
-        &rt,
-        alloc,
-        "bounds 1 1 0\nclasses 1\nclass 2\nrz(0) 0\nx 0\nend\n",
-        49,
-    )?;
-    Ok(())
-}
-
-#[test]
-fn refuses_bounds_of_rule_files(rt: HostRuntime) {
-    let alloc = rt.alloc();
-    let head = "quartz-rules 1\nbounds 7 1 0\nclasses 0\nend\n";
-    check(&rt, alloc, head, Status::Limit(Which::BoundsGates));
-    let qubits = Status::Limit(Which::BoundsQubits);
-    check(&rt, alloc, "quartz-rules 1\nbounds 2 4 0\n", qubits);
-    let params = Status::Limit(Which::BoundsParams);
-    check(&rt, alloc, "quartz-rules 1\nbounds 2 1 4\nx", params);
-    let circuits = Status::Limit(Which::BoundsCircuits);
-    check(&rt, alloc, "quartz-rules 1\nbounds 5 2 2\n", circuits);
-}
-
-#[test]
-fn refuses_unsound_rules(rt: HostRuntime) {
-    let alloc = rt.alloc();
-    let first = "quartz-rules 1\nbounds 1 1 0\nclasses 1\nclass 2\nh 0\nx 0\nend\n";
-    let unsound = Status::Unsound {
-        class: 1,
-        member: 2,
-    };
-    check(&rt, alloc, first, unsound);
-    let later =
+fn refuses_bounds_and_unsound_rules(rt: HostRuntime) {
+    let gates = "quartz-rules 1\nbounds 7 1 0\nclasses 0\nend\n";
+    let second = "quartz-rules 1\nbounds 1 1 0\nclasses 1\nclass 2\nh 0\nx 0\nend\n";
+    let third =
         "quartz-rules 1\nbounds 2 1 2\nclasses 2\nclass 2\nx 0\nx 0\nclass 3\nx 0;rz(p0) 0\nrz(-p0) 0;x 0\nrz(p0) 0;x 0\nend\n";
-    let unsound = Status::Unsound {
-        class: 2,
-        member: 3,
-    };
-    check(&rt, alloc, later, unsound);
-    assert_eq!(&rt; number_of(unsound), 6);
+    let qubits = Status::Limit(Which::BoundsQubits);
+    let params = Status::Limit(Which::BoundsParams);
+    let circuits = Status::Limit(Which::BoundsCircuits);
+    let rows = [
+        (gates, Status::Limit(Which::BoundsGates)),
+        ("quartz-rules 1\nbounds 2 4 0\n", qubits),
+        ("quartz-rules 1\nbounds 2 1 4\nx", params),
+        ("quartz-rules 1\nbounds 5 2 2\n", circuits),
+        (second, unsound(1, 2)),
+        (third, unsound(2, 3)),
+    ];
+    refuses(&rt, rt.alloc(), &rows);
 }
 
-// With these rules a program without gates is written as it is.
-fn reads(rt: &impl Abort, alloc: Global, file: &str) {
-    let text = b"OPENQASM 2.0;\ninclude \"qelib1.inc\";\n";
-    optimises(rt, alloc, file, b"OPENQASM 2.0;", text);
+fn unsound(class: u64, member: u64) -> Status {
+    Status::Unsound { class, member }
 }
 
-// A member may be there twice, and may be the empty circuit; circuits of no gate are allowed.
+// With these rules a program without gates is written as it is. A member may be there twice, and may be the empty circuit;
+// circuits of no gate are allowed.
 #[test]
 fn reads_sound_rules(rt: HostRuntime) {
-    let alloc = rt.alloc();
-    reads(&rt, alloc, two_gates());
     let twice = "quartz-rules 1\nbounds 1 1 0\nclasses 1\nclass 2\nh 0\nh 0\nend\n";
-    reads(&rt, alloc, twice);
     let empty = "quartz-rules 1\nbounds 2 1 0\nclasses 1\nclass 2\nh 0;h 0\n-\nend\n";
-    reads(&rt, alloc, empty);
     let no_gate = "quartz-rules 1\nbounds 0 1 0\nclasses 1\nclass 2\n-\n-\nend\n";
-    reads(&rt, alloc, no_gate);
     let sum =
         "quartz-rules 1\nbounds 2 1 2\nclasses 1\nclass 2\nrz(p0) 0;rz(p1) 0\nrz(p0+p1) 0\nend\n";
-    reads(&rt, alloc, sum);
+    let program = b"OPENQASM 2.0;".as_slice();
+    let text = b"OPENQASM 2.0;\ninclude \"qelib1.inc\";\n".as_slice();
+    for rules in [two_gates(), twice, empty, no_gate, sum] {
+        optimises(&rt, rt.alloc(), rules, program, text);
+    }
 }
 
-// Two H cancel around a gate on other qubits, and not around one on theirs; a rotation between two X is turned.
-#[test]
-fn optimises_by_rules_of_two_gates(rt: HostRuntime) {
-    let alloc = rt.alloc();
-    optimises(
-        &rt,
-        alloc,
-        two_gates(),
-        b"OPENQASM 2.0;\nqreg q[3];\nh q[0]; cx q[1],q[2]; h q[0];",
-        b"OPENQASM 2.0;\ninclude \"qelib1.inc\";\nqreg q[3];\ncx q[1],q[2];\n",
-    );
-    optimises(
-        &rt,
-        alloc,
-        two_gates(),
-        b"OPENQASM 2.0;\nqreg q[3];\nh q[0]; cx q[0],q[1]; h q[0];",
-        b"OPENQASM 2.0;\ninclude \"qelib1.inc\";\nqreg q[3];\nh q[0];\ncx q[0],q[1];\nh q[0];\n",
-    );
-    optimises(
-        &rt,
-        alloc,
-        two_gates(),
-        b"OPENQASM 2.0;\nqreg q[1];\nx q[0]; rz(pi/4) q[0]; x q[0];",
-        b"OPENQASM 2.0;\ninclude \"qelib1.inc\";\nqreg q[1];\nrz(-pi/4) q[0];\n",
-    );
+// Programs, and what the rules of two gates make of them: two H cancel around a gate on other qubits, and not around one on
+// theirs; a rotation between two X is turned.
+fn programs() -> [(&'static [u8], &'static [u8]); 3] {
+    [
+        (
+            b"OPENQASM 2.0;\nqreg q[3];\nh q[0]; cx q[1],q[2]; h q[0];",
+            b"OPENQASM 2.0;\ninclude \"qelib1.inc\";\nqreg q[3];\ncx q[1],q[2];\n",
+        ),
+        (
+            b"OPENQASM 2.0;\nqreg q[3];\nh q[0]; cx q[0],q[1]; h q[0];",
+            b"OPENQASM 2.0;\ninclude \"qelib1.inc\";\nqreg q[3];\nh q[0];\ncx q[0],q[1];\nh q[0];\n",
+        ),
+        (
+            b"OPENQASM 2.0;\nqreg q[1];\nx q[0]; rz(pi/4) q[0]; x q[0];",
+            b"OPENQASM 2.0;\ninclude \"qelib1.inc\";\nqreg q[1];\nrz(-pi/4) q[0];\n",
+        ),
+    ]
 }
 
 // The text with these lines before its first barrier.
@@ -305,10 +236,13 @@ fn before_barrier(alloc: Global, text: &[u8], lines: &[u8]) -> Result<Vec<u8>, A
     Ok(changed)
 }
 
-// The registers and the tail are written as they are, and two rotations by a quarter as one.
+// The registers and the tail of a program are written as they are, and two rotations by a quarter as one.
 #[test]
-fn optimises_a_measured_program(rt: HostRuntime) -> Result<(), Fail> {
+fn optimises_by_rules_of_two_gates(rt: HostRuntime) -> Result<(), Fail> {
     let alloc = rt.alloc();
+    for (program, text) in programs() {
+        optimises(&rt, alloc, two_gates(), program, text);
+    }
     let program = before_barrier(alloc, two_registers(), b"t q[1];\nt q[1];\n")?;
     let text = before_barrier(alloc, measured_lines(), b"rz(pi/2) q[1];\n")?;
     optimises(&rt, alloc, two_gates(), &program, &text);
@@ -341,27 +275,18 @@ fn rounds_find(alloc: Global, rounds: u64, wanted: &[Inst]) -> bool {
 
 #[test]
 fn searches_by_rounds(rt: HostRuntime) {
-    let alloc = rt.alloc();
     let unchanged = [Inst::X(0), Inst::Rz(0, 64), Inst::X(0)];
-    assert!(rt; rounds_find(alloc, 0, &unchanged));
     let turned = [Inst::X(0), Inst::X(0), Inst::Rz(0, 448)];
-    assert!(rt; rounds_find(alloc, 1, &turned));
-    assert!(rt; rounds_find(alloc, 2, &[Inst::Rz(0, 448)]));
-    assert!(rt; rounds_find(alloc, 16, &[Inst::Rz(0, 448)]));
-}
-
-// The input is refused after the rules, and fails after them.
-#[test]
-fn ends_by_inputs(rt: HostRuntime) -> Result<(), Fail> {
-    let alloc = rt.alloc();
-    let program = b"OPENQASM 2.0;\nqreg q[1];\nx q[0]; rz(pi/4) q[0]; x q[0];";
-    assert!(rt; input_ends(alloc, program, &[0], Status::ReadFault)?);
-    let syntax = Status::Qasm(QasmFault::Syntax { place: 0 });
-    assert!(rt; input_ends(alloc, b"", &[], syntax)?);
-    let qubits = Status::Limit(Which::ProgramQubits);
-    assert!(rt; input_ends(alloc, b"OPENQASM 2.0;\nqreg q[65];", &[], qubits)?);
-    assert_eq!(rt; number_of(Status::ReadFault), 8);
-    Ok(())
+    let alone = [Inst::Rz(0, 448)];
+    let rows = [
+        (0, unchanged.as_slice()),
+        (1, turned.as_slice()),
+        (2, alone.as_slice()),
+        (16, alone.as_slice()),
+    ];
+    for (rounds, wanted) in rows {
+        assert!(rt; rounds_find(rt.alloc(), rounds, wanted), "{rounds} rounds");
+    }
 }
 
 // Whether the front of the file has its fault where it ends.
@@ -394,14 +319,76 @@ fn shelf_ends(
     ends(alloc, name, &mut shelf, status)
 }
 
+// The input is refused after the rules, and fails after them; the shelf fails at the opening and at a read.
 #[test]
-fn ends_by_faults_of_shelves(rt: HostRuntime) -> Result<(), Fail> {
+fn ends_by_inputs_and_shelves(rt: HostRuntime) -> Result<(), Fail> {
     let alloc = rt.alloc();
+    let program = b"OPENQASM 2.0;\nqreg q[1];\nx q[0]; rz(pi/4) q[0]; x q[0];";
+    assert!(rt; input_ends(alloc, program, &[0], Status::ReadFault)?);
+    let syntax = Status::Qasm(QasmFault::Syntax { place: 0 });
+    assert!(rt; input_ends(alloc, b"", &[], syntax)?);
+    let qubits = Status::Limit(Which::ProgramQubits);
+    assert!(rt; input_ends(alloc, b"OPENQASM 2.0;\nqreg q[65];", &[], qubits)?);
     assert!(rt; shelf_ends(alloc, "none", &[], false, Status::NoFile)?);
     assert!(rt; shelf_ends(alloc, "r", &[20], false, Status::ShelfFault)?);
     assert!(rt; shelf_ends(alloc, "r", &[], true, Status::ShelfFault)?);
     assert!(rt; shelf_ends(alloc, "none", &[], true, Status::ShelfFault)?);
-    assert_eq!(rt; number_of(Status::NoFile), 7);
-    assert_eq!(rt; number_of(Status::ShelfFault), 10);
     Ok(())
+}
+
+// A shelf without files, which counts the openings of r and those of other names.
+#[derive(Drop)]
+struct Counting {
+    openings: u64,
+    others: u64,
+}
+
+impl Shelf for Counting {
+    ghost files = { λ _. None };
+
+    ghost rest = { λ _. None };
+
+    ghost is_open = { λ _. true };
+
+    ghost faults = { λ _. 0 };
+
+    ghost answers_faults = { true };
+
+    fn open(&mut self, name: &str) -> Result<bool, IoFault> {
+        if name == "r" {
+            self.openings = self.openings.saturating_add(1);
+        } else {
+            self.others = self.others.saturating_add(1);
+        }
+        Ok(false)
+    }
+
+    fn read(&mut self, _piece: &mut [u8]) -> Result<usize, IoFault> {
+        Ok(0)
+    }
+}
+
+// No file but its own is opened, and that once.
+#[test]
+fn opens_its_file_alone(rt: HostRuntime) -> Result<(), Fail> {
+    let mut shelf = Counting {
+        openings: 0,
+        others: 0,
+    };
+    assert!(rt; ends(rt.alloc(), "r", &mut shelf, Status::NoFile)?);
+    assert!(rt; shelf.openings == 1 && shelf.others == 0);
+    Ok(())
+}
+
+#[test]
+fn numbers_statuses(rt: HostRuntime) {
+    let rows = [
+        (unsound(2, 3), 6),
+        (Status::NoFile, 7),
+        (Status::ReadFault, 8),
+        (Status::ShelfFault, 10),
+    ];
+    for (status, number) in rows {
+        assert_eq!(rt; number_of(status), number);
+    }
 }

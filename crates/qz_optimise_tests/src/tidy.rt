@@ -81,35 +81,30 @@ fn one_qubit_text(alloc: Global, lines: &str) -> Result<Vec<u8>, AllocError> {
     joined(alloc, head, lines.as_bytes())
 }
 
-// On one qubit, this statement is written as these lines.
-fn tidies_statement(
-    rt: &impl Abort,
-    alloc: Global,
-    statement: &str,
-    lines: &str,
-) -> Result<(), AllocError> {
+// Whether on one qubit this statement is written as these lines.
+fn is_statement_tidied(alloc: Global, statement: &str, lines: &str) -> Result<bool, AllocError> {
     let program = one_qubit(alloc, statement)?;
     let text = one_qubit_text(alloc, lines)?;
-    tidies(rt, alloc, &program, &text);
-    Ok(())
-}
-
-#[test]
-fn writes_canonical_texts(rt: HostRuntime) -> Result<(), Fail> {
-    let alloc = rt.alloc();
-    tidies(&rt, alloc, two_registers(), measured_lines());
-    let empty = b"OPENQASM 2.0;\ninclude \"qelib1.inc\";\n";
-    tidies(&rt, alloc, b"OPENQASM 2.0;", empty);
-    tidies_statement(&rt, alloc, "rz(2*pi) q[0];", "")?;
-    tidies_statement(&rt, alloc, "rz(-3*pi/4) q[0];", "rz(-3*pi/4) q[0];\n")?;
-    tidies_statement(&rt, alloc, "y q[0];", "rz(pi) q[0];\nx q[0];\n")?;
-    Ok(())
+    is_tidied(alloc, &program, &text)
 }
 
 // A canonical text is written as it is.
 #[test]
-fn writes_a_canonical_text_again(rt: HostRuntime) {
-    tidies(&rt, rt.alloc(), measured_lines(), measured_lines());
+fn writes_canonical_texts(rt: HostRuntime) {
+    let alloc = rt.alloc();
+    tidies(&rt, alloc, two_registers(), measured_lines());
+    tidies(&rt, alloc, measured_lines(), measured_lines());
+    let empty = b"OPENQASM 2.0;\ninclude \"qelib1.inc\";\n";
+    tidies(&rt, alloc, b"OPENQASM 2.0;", empty);
+    let rows = [
+        ("rz(2*pi) q[0];", ""),
+        ("rz(-3*pi/4) q[0];", "rz(-3*pi/4) q[0];\n"),
+        ("y q[0];", "rz(pi) q[0];\nx q[0];\n"),
+    ];
+    for (statement, lines) in rows {
+        let tidied = is_statement_tidied(alloc, statement, lines).unwrap_or(false);
+        assert!(rt; tidied, "{statement}");
+    }
 }
 
 // Whether this input is refused with this status, and nothing is written.
@@ -128,50 +123,50 @@ fn refuses(rt: &impl Abort, alloc: Global, program: &[u8], status: Status) {
     );
 }
 
-// On one qubit, this statement has this fault.
-fn refuses_statement(
-    rt: &impl Abort,
-    alloc: Global,
-    statement: &str,
-    fault: QasmFault,
-) -> Result<(), AllocError> {
+// Whether on one qubit this statement has this fault.
+fn has_fault(alloc: Global, statement: &str, fault: QasmFault) -> Result<bool, AllocError> {
     let program = one_qubit(alloc, statement)?;
-    refuses(rt, alloc, &program, Status::Qasm(fault));
-    Ok(())
+    is_refused(alloc, &program, Status::Qasm(fault))
 }
 
-#[test]
-fn refuses_faults_of_gates(rt: HostRuntime) -> Result<(), Fail> {
-    let alloc = rt.alloc();
+fn faulty_statements() -> [(&'static str, QasmFault); 6] {
     let angle = QasmFault::Angle(AngleFault::NotMultiple { place: 28 });
-    refuses_statement(&rt, alloc, "rz(pi/512) q[0];", angle)?;
-    let same_qubit = QasmFault::SameQubit { place: 33 };
-    refuses_statement(&rt, alloc, "cx q[0],q[0];", same_qubit)?;
-    let index = QasmFault::Index { place: 29 };
-    refuses_statement(&rt, alloc, "h q[1];", index)?;
-    let name = QasmFault::UnknownName { place: 27 };
-    refuses_statement(&rt, alloc, "h r[0];", name)?;
     let gate = QasmFault::UnknownGate { place: 25 };
-    refuses_statement(&rt, alloc, "rx(pi) q[0];", gate)?;
-    let unsupported = QasmFault::Unsupported { place: 36 };
-    refuses_statement(&rt, alloc, "barrier q; h q[0];", unsupported)?;
-    assert_eq!(rt; number_of(Status::Qasm(angle)), 4);
-    Ok(())
+    let late = QasmFault::Unsupported { place: 36 };
+    [
+        ("rz(pi/512) q[0];", angle),
+        ("cx q[0],q[0];", QasmFault::SameQubit { place: 33 }),
+        ("h q[1];", QasmFault::Index { place: 29 }),
+        ("h r[0];", QasmFault::UnknownName { place: 27 }),
+        ("rx(pi) q[0];", gate),
+        ("barrier q; h q[0];", late),
+    ]
+}
+
+fn faulty_texts() -> [(&'static [u8], Status); 5] {
+    let in_register = Status::Qasm(QasmFault::Syntax { place: 21 });
+    let gate = Status::Qasm(QasmFault::UnknownGate { place: 14 });
+    let version = Status::Qasm(QasmFault::Unsupported { place: 9 });
+    let qubits = Status::Limit(Which::ProgramQubits);
+    [
+        (b"", Status::Qasm(QasmFault::Syntax { place: 0 })),
+        (b"OPENQASM 2.0;\nqreg q[", in_register),
+        (b"OPENQASM 2.0;\nqre", gate),
+        (b"OPENQASM 3.0;", version),
+        (b"OPENQASM 2.0;\nqreg q[65];", qubits),
+    ]
 }
 
 #[test]
-fn refuses_texts_that_are_cut_short(rt: HostRuntime) {
+fn refuses_faults(rt: HostRuntime) {
     let alloc = rt.alloc();
-    let at_once = Status::Qasm(QasmFault::Syntax { place: 0 });
-    refuses(&rt, alloc, b"", at_once);
-    let in_register = Status::Qasm(QasmFault::Syntax { place: 21 });
-    refuses(&rt, alloc, b"OPENQASM 2.0;\nqreg q[", in_register);
-    let gate = Status::Qasm(QasmFault::UnknownGate { place: 14 });
-    refuses(&rt, alloc, b"OPENQASM 2.0;\nqre", gate);
-    let version = Status::Qasm(QasmFault::Unsupported { place: 9 });
-    refuses(&rt, alloc, b"OPENQASM 3.0;", version);
-    let qubits = Status::Limit(Which::ProgramQubits);
-    refuses(&rt, alloc, b"OPENQASM 2.0;\nqreg q[65];", qubits);
+    for (statement, fault) in faulty_statements() {
+        let refused = has_fault(alloc, statement, fault).unwrap_or(false);
+        assert!(rt; refused, "{statement}");
+    }
+    for (text, status) in faulty_texts() {
+        refuses(&rt, alloc, text, status);
+    }
 }
 
 // So many spaces.
@@ -190,17 +185,12 @@ fn leaves(rt: &impl Abort, alloc: Global, count: usize, rest: usize) -> Result<(
     Ok(())
 }
 
-#[test]
-fn refuses_inputs_past_the_limit(rt: HostRuntime) -> Result<(), Fail> {
-    leaves(&rt, rt.alloc(), 4_194_305, 0)?;
-    leaves(&rt, rt.alloc(), 4_194_312, 7)?;
-    Ok(())
-}
-
 // An input of the greatest length is read as any other.
 #[test]
 fn reads_inputs_to_the_limit(rt: HostRuntime) -> Result<(), Fail> {
     let alloc = rt.alloc();
+    leaves(&rt, alloc, 4_194_305, 0)?;
+    leaves(&rt, alloc, 4_194_312, 7)?;
     let blank = spaces(alloc, 4_194_304)?;
     let at_end = Status::Qasm(QasmFault::Syntax { place: 4_194_304 });
     refuses(&rt, alloc, &blank, at_end);
@@ -223,16 +213,6 @@ fn fails_at(rt: &impl Abort, alloc: Global, stop: u64, rest: usize) -> Result<()
     let mut input = input_with(alloc, b"OPENQASM 2.0;", &[stop])?;
     assert!(rt; is_read_fault(alloc, &mut input)?, "at {stop}");
     assert!(rt; left(&input).len() == rest && faults(&input) == 1);
-    Ok(())
-}
-
-#[test]
-fn ends_at_a_read_fault(rt: HostRuntime) -> Result<(), Fail> {
-    let alloc = rt.alloc();
-    fails_at(&rt, alloc, 0, 13)?;
-    fails_at(&rt, alloc, 9, 4)?;
-    fails_at(&rt, alloc, 13, 0)?;
-    assert_eq!(rt; number_of(Status::ReadFault), 8);
     Ok(())
 }
 
@@ -262,9 +242,16 @@ fn ends_after(rt: &impl Abort, alloc: Global, stop: u64, text: &[u8]) -> Result<
 }
 
 #[test]
-fn ends_at_a_write_fault(rt: HostRuntime) -> Result<(), Fail> {
-    ends_after(&rt, rt.alloc(), 0, b"")?;
-    ends_after(&rt, rt.alloc(), 20, b"OPENQASM 2.0;\ninclud")?;
+fn ends_at_faults_of_the_outside(rt: HostRuntime) -> Result<(), Fail> {
+    let alloc = rt.alloc();
+    for (stop, rest) in [(0, 13), (9, 4), (13, 0)] {
+        fails_at(&rt, alloc, stop, rest)?;
+    }
+    ends_after(&rt, alloc, 0, b"")?;
+    ends_after(&rt, alloc, 20, b"OPENQASM 2.0;\ninclud")?;
+    let angle = QasmFault::Angle(AngleFault::NotMultiple { place: 28 });
+    assert_eq!(rt; number_of(Status::Qasm(angle)), 4);
+    assert_eq!(rt; number_of(Status::ReadFault), 8);
     Ok(())
 }
 
@@ -292,12 +279,16 @@ fn leaves_input(
 // No other words read the input.
 #[test]
 fn other_words_leave_the_input(rt: HostRuntime) -> Result<(), Fail> {
-    let alloc = rt.alloc();
-    leaves_input(&rt, alloc, "tidy now", Status::Usage)?;
-    leaves_input(&rt, alloc, "tidy tidy", Status::Usage)?;
-    leaves_input(&rt, alloc, "tidy ", Status::Usage)?;
-    leaves_input(&rt, alloc, "tidy --workers 1", Status::Usage)?;
-    leaves_input(&rt, alloc, "Tidy", Status::Usage)?;
-    leaves_input(&rt, alloc, "generate 1 1 0", Status::Ok)?;
+    let rows = [
+        ("tidy now", Status::Usage),
+        ("tidy tidy", Status::Usage),
+        ("tidy ", Status::Usage),
+        ("tidy --workers 1", Status::Usage),
+        ("Tidy", Status::Usage),
+        ("generate 1 1 0", Status::Ok),
+    ];
+    for (text, status) in rows {
+        leaves_input(&rt, rt.alloc(), text, status)?;
+    }
     Ok(())
 }

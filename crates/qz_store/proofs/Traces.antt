@@ -1,17 +1,20 @@
 -- A table shows one round, the opened table shows the opened one, and each schedule is an interleaving.
 use Rattle.std.proofs.Common.{◌≡◌, ◌≢◌, ◌⊎◌, ℕ, zero, suc, ◌+◌, ◌<◌, ◌==◌, cond, Bool, true, false, List, [], ◌∷◌, ◌++◌, map, length, get_or, replicate, slice_get, slice_index, slice_index_or, Option, Some, None, sym, refl, ap, subst, ◌∙◌, inl, inr, ⊎_elim, append-nil, arith}
 use Rattle.std.specs.List.{sum_by}
+use Rattle.std.specs.List.Sorted.{IsStrictlyIncreasing}
 use Rattle.std.proofs.lemmas.Bool.{cases_lt, cases_eq, cases_Bool, eqb-true}
-use Rattle.std.proofs.lemmas.List.{append_cancel_left, length-map, length-replicate, get_or-replicate, get_or_past}
+use Rattle.std.proofs.lemmas.List.{append_cancel_left, length-map, length-replicate, get_or-map, get_or-replicate, get_or_past}
 use Rattle.std.proofs.lemmas.List.Folds.{sum_by-replicate}
 use Rattle.std.proofs.lemmas.List.Sums.{sum_by-cons}
 use Rattle.std.proofs.Math.ListN.{length-set}
+use Rattle.std.proofs.lemmas.Option.{slice_get_within, get_or_from_slice_get}
 use mathlib.Core.Option.{some, some-injective, some-ne-none}
 use lib.ListN.{get_elem?}
 use Rattle.atomic_table.specs.Table.{State}
-use Rattle.qz_core.specs.RoundMachine.{times, RoundState, RoundEvent, opened, home_among, home_of, claimed, put, is_pending, after_events, AreOfWorkers}
+use Rattle.qz_core.specs.RoundMachine.{times, RoundState, RoundEvent, opened, home_among, home_of, claimed, put, is_pending, after_events, AreOfWorkers, IsRoundOf}
 use Rattle.qz_core.specs.RoundMachine.RoundEvent.{Claim, Put}
 use Rattle.qz_core.proofs.Interleavings.{input_stays}
+use Rattle.qz_core.proofs.Vectors.{home_at}
 use Rattle.qz_core.proofs.Rounds.{claimed_more, claimed_none, put_more, put_none}
 use Rattle.qz_seats.specs.declared.view.Terms.{Terms}
 use Rattle.qz_seats.specs.declared.view.View.{View}
@@ -126,6 +129,18 @@ module _ {V : Type 0} (J N M : V → List ℕ) (limit seats : ℕ) (values : Lis
         (λ h. absurd (holds_none (first_view (terms_of J N M limit seats values)) h.1 h.0 (i, journal) refl h.2 h.3))
         now;
   }
+
+-- where the homes of ranks are given by a function, that of a rank is what the function says
+pub home_given : (list : List ℕ) (home : ℕ → ℕ) (d r : ℕ) → IsStrictlyIncreasing list → ((x : ℕ) → home x < 16) → slice_get list d ≡ Some r → home_among list (map home list) r ≡ home r
+home_given list home d r rising below at =
+    let within = slice_get_within list d r at in
+    let is : get_or list d 0 ≡ r = get_or_from_slice_get list d r 0 at in
+    let input : IsRoundOf list (map home list) = record {
+      rising = rising;
+      each = length-map list home;
+      below = λ k e inside. subst (λ x. x < 16) (sym (get_or-map home list k 0 e (omega (arith, length-map list home)))) (below (get_or list k 0));
+    } in
+    sym (home_at list (map home list) r d input within is) ∙ (get_or-map home list d 0 0 within ∙ ap home is)
 
 -- no event changes the number of workers
 workers_stay : (event : RoundEvent) (m : RoundState) → length (after_events (event ∷ []) m).pending ≡ length m.pending

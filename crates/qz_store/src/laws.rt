@@ -1,8 +1,9 @@
 //! Laws of the store: its table is the round machine. Each is the contract of a function with an empty body. They hold of any values with
 //! journals, and so of the shards of a store.
-ghost use Rattle.std.specs.Prelude.{◌≡◌, ◌<◌, true, ℕ, List, Option, length};
+ghost use Rattle.std.specs.Prelude.{◌≡◌, ◌<◌, true, ℕ, List, Option, Some, map, length, slice_get};
+ghost use Rattle.std.specs.List.Sorted.{IsStrictlyIncreasing};
 ghost use Rattle.atomic_table.specs.Table.{State};
-ghost use Rattle.qz_core.specs.RoundMachine.{RoundState, opened, home_of, is_pending, claimed, put, AreOfWorkers};
+ghost use Rattle.qz_core.specs.RoundMachine.{RoundState, opened, home_among, home_of, is_pending, claimed, put, AreOfWorkers};
 ghost use Rattle.qz_seats.specs.declared.view.Terms.{Terms};
 ghost use Rattle.qz_seats.specs.declared.view.View.{View};
 ghost use Rattle.qz_seats.specs.SeatRule.{names_of, terms_of, IsRuled};
@@ -61,6 +62,11 @@ pub fn the_opened_table_shows_the_opened_round<V: Journal>()
     ensures lawful { (limit seats : ℕ) (values : List V) → AreForStore V.journal V.names V.mark limit seats values → IsOfStore (terms_of V.journal V.names V.mark limit seats values) }
     ensures ruled { (limit seats : ℕ) (values : List V) → AreForStore V.journal V.names V.mark limit seats values → IsRuled V.journal V.names V.mark (terms_of V.journal V.names V.mark limit seats values) (opened_table V.journal V.names V.mark limit seats values) }
     ensures shown { (limit seats : ℕ) (values : List V) → AreForStore V.journal V.names V.mark limit seats values → (n : ℕ) (homes : List ℕ) → Shows V.journal (terms_of V.journal V.names V.mark limit seats values) (opened_table V.journal V.names V.mark limit seats values) (opened n (names_of V.names values) homes) }
+{}
+
+/// Where the homes of the ranks are given by a function, the home of a rank is what the function says, as the shard of a circuit.
+pub fn a_rank_has_the_home_that_is_given()
+    ensures { (list : List ℕ) (home : ℕ → ℕ) (d r : ℕ) → IsStrictlyIncreasing list → ((x : ℕ) → home x < 16) → slice_get list d ≡ Some r → home_among list (map home list) r ≡ home r }
 {}
 
 /// Each schedule is an interleaving of the round machine: any steps from the opening on lead to a table that keeps the rule and shows
