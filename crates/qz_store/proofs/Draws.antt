@@ -1,5 +1,5 @@
 -- A draw is a claim, and a settle with one entry is a put.
-use Rattle.std.proofs.Common.{◌≡◌, ◌≢◌, ℕ, suc, ◌+◌, ◌%◌, ◌^◌, ◌<◌, ◌==◌, ◌||◌, min, cond, Bool, true, false, List, [], ◌∷◌, ◌++◌, length, get_or, slice_get, slice_index, slice_index_or, Option, Some, None, sym, refl, ap, subst, ◌∙◌, inl, inr, ⊎_elim, append_assoc, eq-eqb, ne_eqb, arith}
+use Rattle.std.proofs.Common.{◌≡◌, ◌≢◌, ℕ, suc, ◌+◌, ◌%◌, ◌^◌, ◌<◌, ◌==◌, ◌||◌, min, cond, Bool, true, false, List, [], ◌∷◌, ◌++◌, length, get_or, slice_get, slice_index, slice_index_or, Option, Some, sym, refl, ap, subst, ◌∙◌, inl, inr, ⊎_elim, append_assoc, eq-eqb, ne_eqb, arith}
 use Rattle.std.specs.List.{sum_by, list_any}
 use Rattle.std.proofs.lemmas.Bool.{cases_lt, cases_eq, true≢false}
 use Rattle.std.proofs.lemmas.List.{get_or-set_same, get_or-set_other, get_or_past}
@@ -16,21 +16,19 @@ use Rattle.qz_core.proofs.Rounds.{claimed_more, claimed_none, put_more, pending_
 use Rattle.qz_seats.specs.declared.view.Terms.{Terms}
 use Rattle.qz_seats.specs.declared.view.View.{View}
 use Rattle.qz_seats.specs.Receipts.{ReceiptParts}
-use Rattle.qz_seats.specs.Views.{draws, is_held, with_item, drawing, adding}
+use Rattle.qz_seats.specs.Views.{draws, is_held, holding, with_item, drawing, adding}
 use Rattle.qz_seats.specs.SeatRule.{below, AreDifferent, count_of, opening_of, IsRuled}
 use Rattle.qz_seats.proofs.Sums.{sum-set, one_le}
 use Rattle.qz_seats.proofs.Changes.{below_more}
 use Rattle.qz_seats.proofs.Values.{held_once}
 use Rattle.qz_seats.proofs.Lifts.{this_held}
 use Rattle.qz_seats.proofs.Passes.{some_same}
+use Rattle.qz_seats.proofs.Settles.{none-some}
 use Rattle.qz_store.specs.Showing.{IsOfStore, waiting, IsJournal, Shows}
 use Rattle.qz_store.specs.Steps.{IsStep, IsChange, IsPending}
 use Rattle.qz_store.specs.Steps.SeatStep.{Draw, SettleOne}
 use Rattle.qz_store.proofs.Views.{waited, IsHeld, held_after}
 use Rattle.qz_store.proofs.Steps.{counter_small, draw_keeps, one_entry_keeps}
-
-none-some : (h : ℕ × List ℕ) → None ≡ Some h → ⊥
-none-some h e = cc
 
 -- there is a name for each number below the limit
 names_long : (t : Terms) → IsOfStore t → length t.names ≡ t.limit
@@ -164,7 +162,7 @@ module _ {V : Type 0} (J N M : V → List ℕ) (t : Terms) (s u : State (Option 
       let is = step.5 in
       let after = one_entry_keeps J N M t s u of.lawful ruled k i x step in
       let inside_i : i < count_of t = ((ruled.fits k v step.1.0).holds (i, more.lifted) more.held).0 in
-      let mine : Rattle.qz_seats.specs.Views.holding i v ≡ 1 = ap (is_held i) more.held ∙ this_held i more.lifted in
+      let mine : holding i v ≡ 1 = ap (is_held i) more.held ∙ this_held i more.lifted in
       let there = sym (pending_is m worker x) ∙ pending in
       let within = pending_within m worker x pending in
       let counter : slice_index u.words 0 ≡ slice_index s.words 0 = ap (λ (y : State (Option V) View). slice_index y.words 0) is ∙ get_or-set_other s.words (i + 1) 0 0 0 (omega arith) in

@@ -1,8 +1,8 @@
 -- Each kind of step, on a table that shows a round, leads to one that shows the round after the step's event.
-use Rattle.std.proofs.Common.{◌≡◌, ℕ, ◌+◌, ◌==◌, min, cond, List, [], ◌∷◌, ◌++◌, set, length, slice_index, Option, Some, None, sym, ap, subst, ◌∙◌, inl, inr, ⊎_elim, arith}
+use Rattle.std.proofs.Common.{◌≡◌, ℕ, ◌+◌, ◌==◌, min, cond, List, [], ◌∷◌, ◌++◌, set, slice_index, Option, Some, sym, ap, subst, ◌∙◌, inl, inr, ⊎_elim, arith}
 use Rattle.std.specs.List.{sum_by}
-use Rattle.std.proofs.lemmas.List.{get_or-set_same, get_or-set_other}
-use Rattle.std.proofs.lemmas.List.Sums.{sum_by_push}
+use Rattle.std.proofs.lemmas.List.{get_or-set_other}
+use Rattle.std.proofs.lemmas.List.Sums.{sum_by-append, sum_by_push}
 use mathlib.Core.Option as slots
 use mathlib.Core.Option.{some, some-injective, some-ne-none}
 use lib.ListN.{get_elem?}
@@ -16,18 +16,12 @@ use Rattle.qz_seats.specs.Views.{with_item, taking, losing, giving, after_split,
 use Rattle.qz_seats.specs.SeatRule.{below, IsRuled}
 use Rattle.qz_seats.proofs.Sums.{sum-set}
 use Rattle.qz_seats.proofs.Passes.{some_same}
+use Rattle.qz_seats.proofs.Settles.{none-some}
 use Rattle.qz_store.specs.Showing.{IsOfStore, IsJournal, Shows}
 use Rattle.qz_store.specs.Steps.{IsStep, IsNoEvent}
 use Rattle.qz_store.specs.Steps.SeatStep.{Won, Lost, SettleSame, Split, Join}
 use Rattle.qz_store.proofs.Views.{waited, IsHeld, held_after}
 use Rattle.qz_store.proofs.Steps.{win_keeps, loss_keeps, none_entry_keeps, split_keeps, join_keeps}
-
-none-some : (h : ℕ × List ℕ) → None ≡ Some h → ⊥
-none-some h e = cc
-
--- there is a name for each number below the limit
-names_long : (t : Terms) → IsOfStore t → length t.names ≡ t.limit
-names_long t of = ⊎_elim (λ e. absurd (of.some e)) (λ e. e) of.lawful.named
 
 module _ {V : Type 0} (J N M : V → List ℕ) (t : Terms) (s u : State (Option V) View) (of : IsOfStore t) (ruled : IsRuled J N M t s) where
   -- what is shown stays where no number is drawn, no receipt comes, and each journal was one before
@@ -159,7 +153,7 @@ module _ {V : Type 0} (J N M : V → List ℕ) (t : Terms) (s u : State (Option 
             (λ x. ap (λ (y : State (Option V) View). sum_by (with_item x) y.views) is
             ∙ (let a = sum-set (with_item x) s.views k v both step.2.0 in
             let b = sum-set (with_item x) (set s.views k both) other w nobody there_too in
-            let c = Rattle.std.proofs.lemmas.List.Sums.sum_by-append (λ (r : ReceiptParts). cond (r.item == x) 1 0) v.receipts w.receipts in
+            let c = sum_by-append (λ (r : ReceiptParts). cond (r.item == x) 1 0) v.receipts w.receipts in
             omega arith))
             (λ j journal there. ⊎_elim
             (λ h. inl (h.0, subst (λ (y : State (Option V) View). get_elem? y.homes j ≡ some (some (Some h.0))) is h.1, h.2))

@@ -4,9 +4,10 @@ use Rattle.std.proofs.lemmas.List.{set-get_or}
 use mathlib.Core.Option as slots
 use mathlib.Core.Option.{some, some-injective}
 use Rattle.atomic_table.specs.Table.{State}
+use Rattle.atomic_table.proofs.Lists.{set_else}
 use Rattle.qz_seats.specs.declared.view.Terms.{Terms}
 use Rattle.qz_seats.specs.declared.view.View.{View}
-use Rattle.qz_seats.specs.Views.{taking, adding}
+use Rattle.qz_seats.specs.Views.{taking, losing, adding, joined}
 use Rattle.qz_seats.specs.SeatRule.{count_of, IsLawful, IsRuled}
 use Rattle.qz_seats.proofs.Draws.{draws_keep}
 use Rattle.qz_seats.proofs.Joins.{splits_keep, joins_keep}
@@ -48,7 +49,7 @@ module _ {V : Type 0} (J N M : V → List ℕ) (t : Terms) (s u : State (Option 
   unfolding lift_lost
   loss_keeps k i step =
       subst (IsRuled J N M t) (sym step.5)
-      (subst (λ words. IsRuled J N M t (record { words = words; homes = s.homes; views = set s.views k (Rattle.qz_seats.specs.Views.losing step.0) })) (set-get_or s.words (i + 1) 0)
+      (subst (λ words. IsRuled J N M t (record { words = words; homes = s.homes; views = set s.views k (losing step.0) })) (set-get_or s.words (i + 1) 0)
       ((lift_lost J N M t k i (step.0, []) step.1.1 step.2 step.3 s r step.1.0 step.4).3))
 
   pub one_entry_keeps : (k i x : ℕ) → IsStep J N M t s (SettleOne k i x) u → IsRuled J N M t u
@@ -76,4 +77,4 @@ module _ {V : Type 0} (J N M : V → List ℕ) (t : Terms) (s u : State (Option 
   join_keeps k other step =
       subst (IsRuled J N M t) (sym step.7)
       (joins_keep J N M t k other step.0 step.1 step.2.1 step.5 step.6 s r step.2.0 step.4
-      (Rattle.atomic_table.proofs.Lists.set_else s.views k other (Rattle.qz_seats.specs.Views.joined step.0 step.1) step.4 ∙ step.3.0))
+      (set_else s.views k other (joined step.0 step.1) step.4 ∙ step.3.0))

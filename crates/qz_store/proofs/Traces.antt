@@ -21,6 +21,8 @@ use Rattle.qz_seats.specs.declared.view.View.{View}
 use Rattle.qz_seats.specs.Views.{is_held, holding, first_view}
 use Rattle.qz_seats.specs.SeatRule.{count_of, opening_of, names_of, terms_of, IsRuled}
 use Rattle.qz_seats.proofs.Moves.{zeros_at}
+use Rattle.qz_seats.proofs.Passes.{some_same}
+use Rattle.qz_seats.proofs.Settles.{none-some}
 use Rattle.qz_seats.proofs.Opens.{lawful_terms, begins}
 use Rattle.qz_store.specs.Showing.{IsOfStore, IsJournal, Shows, IsSameRound}
 use Rattle.qz_store.specs.Steps.{SeatStep, IsStep}
@@ -61,7 +63,7 @@ has_number (x ∷ xs) r = ⊎_elim
     (cases_eq x r)
   where
     other : (x ≡ r → ⊥) → ((d : ℕ) → slice_get xs d ≢ Some r) → (d : ℕ) → slice_get (x ∷ xs) d ≢ Some r
-    other ne none zero e = ne (Rattle.qz_seats.proofs.Passes.some_same x r e)
+    other ne none zero e = ne (some_same x r e)
     other ne none (suc d) e = none d e
 
 module _ {V : Type 0} (J N M : V → List ℕ) (t : Terms) (s : State (Option V) View) where
@@ -93,14 +95,11 @@ module _ {V : Type 0} (J N M : V → List ℕ) (t : Terms) (s : State (Option V)
 -- the journal of a value at the opening
 journal_at : {V : Type 0} (J : V → List ℕ) (values : List V) (i : ℕ) (value : V) → get_elem? (map some (map Some values)) i ≡ some (some (Some value)) → slice_index_or (map J values) i [] ≡ J value
 journal_at J [] i value at = absurd (some-ne-none _ (sym at))
-journal_at J (z ∷ zs) zero value at = ap J (Rattle.qz_seats.proofs.Passes.some_same z value (some-injective (Some z) (Some value) (some-injective (some (Some z)) (some (Some value)) at)))
+journal_at J (z ∷ zs) zero value at = ap J (some_same z value (some-injective (Some z) (Some value) (some-injective (some (Some z)) (some (Some value)) at)))
 journal_at J (z ∷ zs) (suc i) value at = journal_at J zs i value at
 
 holds_none : (v w : View) (k : ℕ) (h : ℕ × List ℕ) → v.held ≡ None → get_elem? (v ∷ []) k ≡ some w → w.held ≡ Some h → ⊥
-holds_none v w zero h free at e = none (sym free ∙ (ap (λ (x : View). x.held) (some-injective v w at) ∙ e))
-  where
-    none : None ≡ Some h → ⊥
-    none e = cc
+holds_none v w zero h free at e = none-some h (sym free ∙ (ap (λ (x : View). x.held) (some-injective v w at) ∙ e))
 holds_none v w (suc k) h free at e = some-ne-none w (sym at)
 
 blank : (n i : ℕ) → get_or (replicate {A = List ℕ} n []) i [] ≡ []
