@@ -5,7 +5,7 @@ ghost use mathlib.Core.Option.{some};
 ghost use lib.ListN.{get_elem?};
 ghost use Rattle.qz_seats.specs.Views.{draws, drawing, taking, losing, giving, adding, after_split, newcomer, joined, first_view};
 ghost use Rattle.qz_seats.specs.SeatRule.{terms_of, count_of, mark_of, IsAt};
-ghost use Rattle.qz_seats.specs.Steps.{IsLifted};
+ghost use Rattle.qz_seats.specs.Steps.{IsLifted, IsLook};
 ghost use Rattle.qz_seats.specs.Parts.{IsOf};
 ghost use Rattle.qz_seats.specs.Answers.{Drew, HaveNames, LiftGives, HasOneMore, IsClosed};
 
@@ -14,7 +14,7 @@ use crate::pass::Pass;
 use crate::receipt::Receipt;
 use crate::rule::{Both, Draw, Lifting, Look, Opening, Rule, SettleOne, SettleSame, Share};
 use crate::view::View;
-use atomic_table::{Closed, Refused, Table};
+use atomic_table::{Closed, Refused, Seat, Table};
 use qz_circ::Memory;
 use std::alloc::Global;
 use std::marker::Model;
@@ -239,9 +239,19 @@ impl<V: Journal> Seats<V> {
             ended,
         } = other;
         shared.join_seat::<Both>(&mut pass.seat, seat);
-        shared.load::<Look>(&mut pass.seat, 0);
+        self.look(&mut pass.seat);
         pass.shares += shares;
         pass.ended |= ended;
+    }
+
+    // The counter. At the moment of the look no two passes have one number.
+    fn look(&self, seat: &mut Seat<Option<V>, View>) -> u64
+        requires of { seat.old.table_id ≡ self.now.table }
+        requires live { 0 < seat.old.me.0.shares }
+        ensures of { (seat.new.table_id ≡ seat.old.table_id) × (seat.new.id ≡ seat.old.id) }
+        ensures look { IsLook seat.old.me seat.new.me }
+    {
+        self.table.shared.load::<Look>(seat, 0)
     }
 
     /// The values, in order, with all that was put into them. It takes no memory.

@@ -2,7 +2,6 @@ use Rattle.std.proofs.Common.{◌<◌, sym, ap, subst, ◌∙◌, arith}
 use Rattle.qz_seats.specs.Views.{draws}
 use Rattle.qz_seats.specs.Parts.{carried}
 use Rattle.qz_seats.proofs.Joins.{joins_keep}
-use Rattle.qz_seats.proofs.Draws.{looks_keep}
 use Rattle.qz_seats.proofs.seats.Seats.join.Goals as goal
 
 pub join_seat-requires : goal.join_seat-requires
@@ -17,14 +16,12 @@ join_seat-requires g c =
       joins_keep _ _ _ _ _ _ _ _ c.pass.invariant.live free other_free,
     )
 
-pub load-requires : goal.load-requires
-load-requires g c =
-    let tables = ap (λ p. p.table) c.pass.view_is ∙ (c.requires.of.0 ∙ sym (ap (λ s. s.table) c.self.view_is)) in
-    let shares = ap (λ m. m.0.shares) c.join_seat.ensures.2 in (
-      c.join_seat.ensures.0 ∙ tables,
-      omega (arith, c.self.invariant.words_are),
-      looks_keep _ _ _ _ _ _ _ (omega (arith, c.pass.invariant.live)),
-    )
+pub look-requires-clause-of : goal.look-requires-clause-of
+look-requires-clause-of g c = c.join_seat.ensures.0 ∙ (ap (λ p. p.table) c.pass.view_is ∙ c.requires.of.0)
+
+pub look-requires-clause-live : goal.look-requires-clause-live
+look-requires-clause-live g c =
+    let shares = ap (λ m. m.0.shares) c.join_seat.ensures.2 in omega (arith, c.pass.invariant.live)
 
 pub returns-clause-once : goal.returns-clause-once
-returns-clause-once g c = λ x. subst (λ m. draws x m.0 < 2) (sym c.load.ensures.2.0) (c.load.ensures.2.1 x)
+returns-clause-once g c = λ x. subst (λ m. draws x m.0 < 2) (sym c.look.ensures.look.0) (c.look.ensures.look.1 x)
