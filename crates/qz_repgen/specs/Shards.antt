@@ -64,3 +64,13 @@ pub record HoldsExtensions (b : Limits) (probe : ProbeParts) (circuit : CircuitE
   pub listed : circuit.rank < length (all_circuits b)
   pub extends : Extends probe (circuit_at b circuit.rank) circuit.extensions
   pub shorter : HoldsValues b probe circuit.shorter
+
+-- what a contract sees of what makes fingerprints: the bounds of the circuits, and the probe
+pub record FingerprintsParts : Type 0 where
+  pub bounds : Limits
+  pub probe : ProbeParts
+
+-- the probe is for the qubits of the limits, and the front is a circuit
+pub record MakesFingerprints (b : Limits) (probe : ProbeParts) (circuit : CircuitExtensions) : Type 0 where
+  pub qubits : probe.q ≡ b.q
+  pub front : HoldsExtensions b probe circuit

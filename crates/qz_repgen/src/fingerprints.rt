@@ -10,6 +10,7 @@ ghost use Rattle.qz_shard.specs.Shards.{print_at};
 use qz_circ::{Bounds, Memory, Op, drop_last_rank, op_of, unrank};
 use qz_finger::{Extensions, Probe, Values};
 use std::alloc::Global;
+use std::marker::Model;
 
 // The last gate of the circuit with rank r.
 fn last_gate(b: Bounds, r: u64) -> Op
@@ -48,7 +49,7 @@ impl CircuitValues {
         requires qubits { probe.now.q ≡ b.q }
         requires values { HoldsValues b probe.now self.old }
         ensures rank { OnOk result (self.new.rank ≡ rank) }
-        ensures values { OnOk result (HoldsValues b probe.now self.new) }
+        ensures values { HoldsValues b probe.now self.new }
     {
         if self.rank == rank {
             return Ok(());
@@ -74,7 +75,7 @@ impl CircuitValues {
         requires qubits { probe.now.q ≡ b.q }
         requires values { HoldsValues b probe.now self.old }
         ensures extends { IfOk result (Extends probe.now (circuit_at b r)) }
-        ensures values { OnOk result (HoldsValues b probe.now self.new) }
+        ensures values { HoldsValues b probe.now self.new }
     {
         if r == 0 {
             return Ok(probe.extensions(&[]));
@@ -95,7 +96,7 @@ pub(crate) struct CircuitExtensions {
 
 impl CircuitExtensions {
     // The empty circuit.
-    pub(crate) fn new(b: Bounds, probe: &Probe) -> CircuitExtensions
+    fn new(b: Bounds, probe: &Probe) -> CircuitExtensions
         requires qubits { probe.now.q ≡ b.q }
         ensures { HoldsExtensions b probe.now result }
     {
@@ -107,18 +108,12 @@ impl CircuitExtensions {
     }
 
     // Goes to the circuit with this rank. Nothing is made anew where it is the same.
-    pub(crate) fn go_to(
-        &mut self,
-        alloc: Global,
-        b: Bounds,
-        probe: &Probe,
-        rank: u64,
-    ) -> Result<(), Memory>
+    fn go_to(&mut self, alloc: Global, b: Bounds, probe: &Probe, rank: u64) -> Result<(), Memory>
         requires listed { rank < length (all_circuits b) }
         requires qubits { probe.now.q ≡ b.q }
         requires extensions { HoldsExtensions b probe.now self.old }
         ensures rank { OnOk result (self.new.rank ≡ rank) }
-        ensures extensions { OnOk result (HoldsExtensions b probe.now self.new) }
+        ensures extensions { HoldsExtensions b probe.now self.new }
     {
         if self.rank != rank {
             self.extensions = self.shorter.extensions(alloc, b, probe, rank)?;
@@ -128,7 +123,7 @@ impl CircuitExtensions {
     }
 
     // The fingerprint of the circuit with rank r, which is this one with one gate more.
-    pub(crate) fn print_with(&self, b: Bounds, probe: &Probe, r: u64) -> u64
+    fn print_with(&self, b: Bounds, probe: &Probe, r: u64) -> u64
         requires some { 0 < r }
         requires listed { r < length (all_circuits b) }
         requires qubits { probe.now.q ≡ b.q }
@@ -137,5 +132,55 @@ impl CircuitExtensions {
         ensures { result ≡ print_at b probe.now.seed r }
     {
         probe.finger_with(&self.extensions, last_gate(b, r))
+    }
+}
+
+/// Makes the fingerprints of circuits from their ranks. What circuits that differ in their last gate have in common is made once
+/// where they come one after another, as the ranks of a list that rises do. Contracts see the bounds and the probe.
+#[derive(Drop)]
+pub struct Fingerprints {
+    alloc: Global,
+    bounds: Bounds,
+    probe: Probe,
+    front: CircuitExtensions,
+}
+
+impl Model for Fingerprints {
+    ghost use Rattle.qz_repgen.specs.Shards.{FingerprintsParts, MakesFingerprints};
+
+    ghost Value = { FingerprintsParts };
+
+    ghost view = { λ f. record { bounds = f.bounds; probe = f.probe } };
+
+    ghost invariant = { λ f. MakesFingerprints f.bounds f.probe f.front };
+}
+
+impl Fingerprints {
+    /// For circuits within these bounds, by this probe, which is for the bounds' qubits.
+    pub fn new(alloc: Global, b: Bounds, probe: Probe) -> Fingerprints
+        requires { probe.q ≡ b.q }
+        ensures { result ≡ record { bounds = b; probe = probe } }
+    {
+        Fingerprints {
+            alloc,
+            bounds: b,
+            probe,
+            front: CircuitExtensions::new(b, &probe),
+        }
+    }
+
+    /// The fingerprint of the circuit with rank r, which is within the bounds.
+    pub fn of(&mut self, r: u64) -> Result<u64, Memory>
+        requires { r < length (all_circuits self.old.bounds) }
+        ensures print { IfOk result (λ print. print ≡ print_at self.old.bounds self.old.probe.seed r) }
+        ensures same { self.new ≡ self.old }
+    {
+        if r == 0 {
+            return Ok(self.probe.finger(&[]));
+        }
+        let front = drop_last_rank(r, self.bounds);
+        self.front
+            .go_to(self.alloc, self.bounds, &self.probe, front)?;
+        Ok(self.front.print_with(self.bounds, &self.probe, r))
     }
 }

@@ -16,6 +16,7 @@ mod rounds;
 mod shards;
 
 pub use candidate::candidates;
+pub use fingerprints::Fingerprints;
 pub use finish::finished;
 use qz_circ::{Bounds, Classes, Memory, Report, Steps};
 use qz_finger::Probe;

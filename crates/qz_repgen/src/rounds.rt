@@ -11,9 +11,9 @@ ghost use Rattle.qz_repgen.specs.Rounds.{IsRepresentativeOf, IsKeptOf, IsKeptUpT
 ghost use Rattle.qz_repgen.specs.Shards.{journals_of, empty_shards, ShardsHold};
 
 use crate::candidate::candidates;
-use crate::fingerprints::CircuitExtensions;
+use crate::fingerprints::Fingerprints;
 use crate::shards::{sixteen, take_in};
-use qz_circ::{Bounds, Memory, Steps, drop_last_rank, length_of};
+use qz_circ::{Bounds, Memory, Steps, length_of};
 use qz_finger::Probe;
 use qz_shard::Shard;
 use std::alloc::Global;
@@ -84,10 +84,9 @@ fn round<L: Ledger>(
     ensures number { IfOk result (IsNumberOf (IsRepresentativeOf b k)) }
 {
     let (left, representatives) = next_kept(alloc, b, shards, k)?;
-    let mut extensions = CircuitExtensions::new(b, probe);
+    let mut fingerprints = Fingerprints::new(alloc, b, *probe);
     for r in &left {
-        extensions.go_to(alloc, b, probe, drop_last_rank(*r, b))?;
-        let print = extensions.print_with(b, probe, *r);
+        let print = fingerprints.of(*r)?;
         take_in(shards, *r, print, steps)?;
     }
     Ok(representatives)

@@ -5,3 +5,4 @@ pub mod Walk
 pub mod ClassParts
 pub mod HeldShards
 pub mod ShardSteps
+pub mod Crossing

@@ -15,7 +15,7 @@ use Rattle.qz_seats.proofs.Sums.{one_le, two_le}
 use Rattle.qz_store.specs.Closing.{HasReceiptAt}
 
 -- where some pass the test, there is one
-counted_there : {A : Type 0} (test : A → Bool) (xs : List A) → 0 < count_by test xs → (x : A) × Contains xs x × (test x ≡ true)
+pub counted_there : {A : Type 0} (test : A → Bool) (xs : List A) → 0 < count_by test xs → (x : A) × Contains xs x × (test x ≡ true)
 counted_there test [] some = absurd (omega arith)
 counted_there {A} test (x ∷ xs) some = by (counted_there test xs) (test x) refl
   where

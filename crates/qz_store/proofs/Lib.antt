@@ -11,3 +11,4 @@ pub mod Steps
 pub mod Showing
 pub mod Draws
 pub mod Traces
+pub mod Crossing

@@ -1,7 +1,8 @@
 //! The store and its calls.
-ghost use Rattle.std.specs.Prelude.{◌≡◌, ◌≢◌, ◌⊎◌, ◌↔◌, ℕ, ◌<◌, ◌≤◌, true, length, None, Some, IfSome, IfOk};
+ghost use Rattle.std.specs.Prelude.{◌≡◌, ◌≢◌, ◌⊎◌, ◌↔◌, ℕ, ◌<◌, ◌≤◌, true, length, None, Some, IfSome, IfOk, All};
 ghost use Rattle.qz_circ.specs.Bounds.{IsLawful};
 ghost use Rattle.qz_circ.specs.Order.{all_circuits};
+ghost use Rattle.qz_shard.specs.Shards.{IsShard};
 ghost use Rattle.qz_seats.specs.Views.{draws, after_split, newcomer, joined, first_view};
 ghost use Rattle.qz_seats.specs.Parts.{IsOf};
 ghost use Rattle.qz_store.specs.Stores.{list_of, print_in, IsFree, HasClaimed, HasReceipt, IsPending};
@@ -196,7 +197,8 @@ impl Store {
     pub fn close(self, pass: Pass) -> Vec<Shard>
         requires free { IsFree self pass }
         requires all { pass.view.shares ≡ self.seats.terms.seats }
-        ensures { IsClosedStore self pass.view result.items }
+        ensures grown { IsClosedStore self pass.view result.items }
+        ensures shards { All IsShard result.items }
     {
         let Store { seats, room, .. } = self;
         unpacked(seats.close(pass), room)

@@ -5,8 +5,8 @@ use Rattle.qz_store.specs.Closing.{IsClosedStore}
 use Rattle.qz_store.proofs.Closed.{closed_store}
 use Rattle.qz_store.proofs.store.Store.close.Goals as goal
 
-pub returns : goal.returns
-returns c =
+pub returns-clause-grown : goal.returns-clause-grown
+returns-clause-grown c =
     let terms = c.requires.free.of.1 ∙ sym (ap (λ s. s.seats.terms) c.self.view_is) in
     let shards = c.unpacked.ensures.shards in
     subst (λ s. IsClosedStore s c.args.pass.view c.unpacked.result.items) c.self.view_is

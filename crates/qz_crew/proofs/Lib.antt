@@ -1,0 +1,4 @@
+-- Lemmas of workers.
+mod CrewLemmas
+mod LengthLemmas
+mod TurnLemmas

@@ -1,0 +1,2 @@
+-- Workers. Reading order: Works.
+pub mod Works
