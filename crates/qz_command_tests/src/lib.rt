@@ -1,9 +1,13 @@
-//! Tests of the words of commands, of the texts of refusals, and of the commands that take no program.
+//! Tests of the words of commands, of the texts of refusals, of the commands that take no program, and of workers.
 #![tactic(auto)]
 
 #[cfg(test)]
 mod commands;
 #[cfg(test)]
+mod meeting;
+#[cfg(test)]
 mod texts;
 #[cfg(test)]
 mod trials;
+#[cfg(test)]
+mod workers;

@@ -1,13 +1,15 @@
 -- What the words of a command, and one of them that names a file, stand for.
-use Rattle.std.proofs.Common.{◌≡◌, ℕ, List, [], Option, Result, Ok, Err, subst, sym, ◌∙◌, ap, inl, inr}
+use Rattle.std.proofs.Common.{◌≡◌, ℕ, Bool, List, [], Option, Result, Ok, Err, subst, sym, ◌∙◌, ap, inl, inr}
 use Rattle.std.specs.Prelude.{◌⊎◌, slice_index_or, MatchResult}
+use Rattle.qz_circ.specs.Circuit.{Limits}
 use Rattle.qz_circ.specs.Search.{PlanNumbers}
 use Rattle.qz_io.specs.Files.{Files}
 use Rattle.qz_top.specs.declared.status.Status.{Status}
 use Rattle.qz_top.specs.declared.words.Command.{Command}
-use Rattle.qz_top.specs.declared.words.Command.TheVariants.{Optimise}
+use Rattle.qz_top.specs.declared.words.Command.TheVariants.{Generate, Optimise}
 use Rattle.qz_top.specs.declared.words.WordFault.{WordFault}
 use Rattle.qz_top.specs.Answer.{Storage, Outside, IsCarriedOut}
+use Rattle.qz_top.specs.Generate.{WritesCompleteRules}
 use Rattle.qz_top.specs.Making.{HasRules}
 use Rattle.qz_top.specs.Optimise.{Optimises, TellsFile}
 use Rattle.qz_top.specs.Optimised.{WritesOptimised}
@@ -76,3 +78,9 @@ module _ (words : List (List ℕ)) (command : Command) (k : ℕ) (plan : PlanNum
   file_by_name j other more told file same tells =
       let number : k ≡ j = same_number k j plan other workers more (sym is ∙ same) in
       subst (λ (n : List ℕ). TellsFile told n file) (sym (named ∙ ap (word_at words) number)) tells
+
+-- the limits of a generation are known from it, and so what it writes
+pub same_rules : (b other : Limits) (workers more seed next : ℕ) (report wanted : Bool) (old new : Option (List ℕ)) → Generate b workers seed report ≡ Generate other more next wanted → WritesCompleteRules b old new → WritesCompleteRules other old new
+same_rules b other workers more seed next report wanted old new e writes =
+    let limits : b ≡ other = cc in
+    subst (λ (l : Limits). WritesCompleteRules l old new) limits writes

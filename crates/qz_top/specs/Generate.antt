@@ -4,6 +4,8 @@ use Rattle.std.specs.Io.KnownBytes.{append_known}
 use Rattle.qz_circ.specs.Circuit.{Limits}
 use Rattle.qz_circ.specs.Classes.{IsClassList, HasEquivalentMembers}
 use Rattle.qz_circ.specs.Joined.{JoinsEquivalent}
+use Rattle.qz_circ.specs.declared.report.Report.{Report}
+use Rattle.qz_repgen.specs.Reports.{IsReport}
 use Rattle.qz_top.specs.declared.status.Status.TheVariants.{Ok}
 use Rattle.qz_top.specs.Answer.{Answer}
 use Rattle.qz_top.specs.Reports.{IsReportWhere}
@@ -26,6 +28,11 @@ pub record IsCompleteRules (b : Limits) (text : List ℕ) : Type 0 where
   pub text_is : text ≡ rule_text b classes
   pub equivalent : HasEquivalentMembers b classes
   pub joined : JoinsEquivalent b classes
+
+-- the text is such a text, and the report is that of the limits and the seed
+pub record AreMade (b : Limits) (seed : ℕ) (text : List ℕ) (report : Report) : Type 0 where
+  pub rules : IsCompleteRules b text
+  pub counts : IsReport b seed report
 
 -- what the output tells has grown by such a text, whole
 pub record WritesCompleteRules (b : Limits) (old new : Option (List ℕ)) : Type 0 where

@@ -169,10 +169,24 @@ pub record IsTrialSize (q g : ℕ) : Type 0 where
   pub few : q ≤ 64
   pub short : g ≤ 20000
 
--- the numbers of the command are within their limits, where no type keeps them so: those of a trial
+-- a number of workers that passes none
+pub record AreWorkers (workers : ℕ) : Type 0 where
+  pub some : 1 ≤ workers
+  pub few : workers ≤ 16
+
+-- the numbers of the command are within their limits, where no type keeps them so: the workers, and those of a trial
 abbrev pub IsLawfulCommand : Command → Type 0
+IsLawfulCommand (Generate bounds workers seed report) = AreWorkers workers
+IsLawfulCommand Tidy = Unit {0}
+IsLawfulCommand (Optimise rules plan workers) = AreWorkers workers
 IsLawfulCommand (Trial seed q g) = IsTrialSize q g
-IsLawfulCommand _ = Unit {0}
+
+-- how many workers carry out the command
+abbrev pub workers_for : Command → ℕ
+workers_for (Generate bounds workers seed report) = workers
+workers_for Tidy = 1
+workers_for (Optimise rules plan workers) = workers
+workers_for (Trial seed q g) = 1
 
 -- the command, unless it passes a limit
 abbrev pub unless_passed : Option Which → Command → Result Command WordFault

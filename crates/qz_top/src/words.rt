@@ -4,7 +4,7 @@ ghost use Rattle.std.specs.Option.{option_map};
 ghost use Rattle.qz_circ.specs.Search.{PlanNumbers};
 ghost use Rattle.qz_search.specs.PlanFaults.{plan_refusal};
 ghost use Rattle.qz_top.specs.Words.{number_of, option_named, has_option, option_of, takes_value, no_options, IsFileWithin, new_number, new_file, with_value, without_value, options_from, workers_of, seed_of, plan_of};
-ghost use Rattle.qz_top.specs.Words.{which_of, which_of_plan, workers_limit, trial_limit, IsTrialSize, IsLawfulCommand, unless_passed, generation, optimisation, trial, limits_of, generation_asked, optimisation_asked, tidying_asked, trial_asked, command_by, command_of};
+ghost use Rattle.qz_top.specs.Words.{which_of, which_of_plan, workers_limit, trial_limit, AreWorkers, IsTrialSize, IsLawfulCommand, unless_passed, generation, optimisation, trial, limits_of, generation_asked, optimisation_asked, tidying_asked, trial_asked, command_by, command_of};
 
 use qz_circ::{Bounds, LimitFault, Which};
 use qz_search::{Plan, PlanFault};
@@ -348,7 +348,8 @@ fn limit_of_plan(fault: PlanFault) -> Which
 // The limit that a number of workers passes, if it does.
 #[tactic(auto, using(std::proofs::lemmas::Bool::Decides::nat_tests))]
 fn workers_limit(workers: u64) -> Option<Which>
-    ensures { result ≡ workers_limit workers }
+    ensures limit { result ≡ workers_limit workers }
+    ensures none { result ≡ None → AreWorkers workers }
 {
     if workers < 1 || workers > 16 {
         return Some(Which::Workers);

@@ -3,7 +3,7 @@ use Rattle.qz_top.specs.FaultTexts.{status_text}
 use Rattle.qz_top.proofs.AnswerLemmas.{words_carried, words_refused}
 use Rattle.qz_top.proofs.AnswerTexts.{answer_tells, refusal_told, plain_done, no_report, report_told}
 use Rattle.qz_top.proofs.RunLemmas.{tells_same, same_command, words_need, words_need_or, words_ask, refused_ask}
-use Rattle.qz_top.proofs.run.run_solo.Goals as goal
+use Rattle.qz_top.proofs.solo.run_solo.Goals as goal
 
 pub returns-in-Ok-clause-carried_out : goal.returns-in-Ok-clause-carried_out
 returns-in-Ok-clause-carried_out g c = words_carried (map string_bytes c.args.words.now) c.in-Ok.command _ _ c.in-Ok.ensures.command c.carry_out-status.ensures.carried_out

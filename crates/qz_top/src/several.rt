@@ -1,5 +1,5 @@
-//! The top call: a command from its words to what it writes.
-ghost use Rattle.std.specs.Prelude.{◌≡◌, ◌≢◌, ℕ, Bool, true, ◌+◌, ◌<◌, ◌≤◌, ◌⊎◌, List, [], length, map, slice_index_or, string_bytes};
+//! A command with as many workers as its words say.
+ghost use Rattle.std.specs.Prelude.{◌≡◌, ◌≢◌, ℕ, Bool, true, ◌+◌, ◌<◌, ◌≤◌, ◌⊎◌, List, [], length, map, slice_index_or, string_bytes, Some, None, IfSome, Ok, Err};
 ghost use Rattle.std.specs.Io.KnownBytes.{IsAtEnd};
 ghost use Rattle.qz_circ.specs.Circuit.{Limits};
 ghost use Rattle.qz_circ.specs.declared.fault.Which.TheVariants.{InputBytes};
@@ -15,37 +15,30 @@ ghost use Rattle.qz_top.specs.Optimised.{WritesOptimised};
 ghost use Rattle.qz_top.specs.Reports.{IsReportText, end_text};
 ghost use Rattle.qz_top.specs.Run.{status_of_words, CommandAnswers, WordsAnswer, CommandNeedsProgram, NeedsProgram, IsOfProgram, AsksOfProgram, IsForErr, Tells};
 ghost use Rattle.qz_top.specs.Status.{IsBeforeInput, WritesNothing};
-ghost use Rattle.qz_top.specs.Words.{IsLawfulCommand, command_of};
+ghost use Rattle.qz_top.specs.Words.{IsLawfulCommand, workers_for, command_of};
 
-use crate::generate::generate;
-use crate::optimise::optimise;
+use crate::generate::{rules_by, written};
+use crate::solo::{carry_out, run_solo};
 use crate::status::Status;
-use crate::telling::{tell, tell_end};
-use crate::tidy::tidy;
-use crate::trial::trial;
-use crate::words::{Command, WordFault, read_words, word};
+use crate::telling::tell_end;
+use crate::words::{Command, WordFault, read_words};
 use qz_circ::Report;
+use qz_crew::Turnstile;
 use qz_io::{Shelf, Sink, Source};
 use std::alloc::Global;
+use std::sync::Wait;
+use std::thread::Threads;
 
-// The status of words that are refused.
-fn status_of_words(fault: WordFault) -> Status
-    ensures { result ≡ status_of_words fault }
-{
-    match fault {
-        WordFault::Usage => Status::Usage,
-        WordFault::Limit(which) => Status::Limit(which),
-    }
-}
-
-// Carries out a command, which may name some of the words, and answers the report where it is to be told.
-fn carry_out<I: Source, F: Shelf, O: Sink>(
+// The same with the command's workers, where they have something to share; they tell the turnstile their moments.
+fn carry_out_by<I: Source, F: Shelf, O: Sink, T: Turnstile, R: Threads + Wait + Sync>(
+    rt: &R,
     alloc: Global,
     words: &[String],
     command: Command,
     input: &mut I,
     shelf: &mut F,
     out: &mut O,
+    stile: &T,
 ) -> (Status, Option<Report>)
     requires within { (k : ℕ) (plan : PlanNumbers) (workers : ℕ) → command ≡ Command.Optimise k plan workers → k < length words.now }
     requires lawful { IsLawfulCommand command }
@@ -76,32 +69,60 @@ fn carry_out<I: Source, F: Shelf, O: Sink>(
     match command {
         Command::Generate {
             bounds,
+            workers,
             seed,
             report,
-            ..
-        } => generate(alloc, bounds, seed, report, out),
-        Command::Tidy => (tidy(alloc, input, out), None),
-        Command::Optimise { rules, plan, .. } => {
-            let status = optimise(alloc, word(words, rules), plan, input, shelf, out);
-            (status, None)
+        } => {
+            let made = rules_by(rt, alloc, bounds, workers, seed, stile);
+            written(made, report, out)
         }
-        Command::Trial {
-            seed,
-            qubits,
-            gates,
-        } => (trial(alloc, seed, qubits, gates, out), None),
+        command => carry_out(alloc, words, command, input, shelf, out),
     }
 }
 
-/// Carries out the command that the words ask for, with one worker, and then tells the error stream the text of the report, where one
-/// is asked for and the command is done, or else that of the status. Nothing that happens on the error stream changes the status.
-pub fn run_solo<I: Source, F: Shelf, O: Sink, E: Sink>(
+// How many workers carry out a command.
+fn workers_for(command: &Command) -> u64
+    ensures { result ≡ workers_for command.now }
+{
+    match command {
+        Command::Generate { workers, .. } => *workers,
+        Command::Optimise { workers, .. } => *workers,
+        Command::Tidy | Command::Trial { .. } => 1,
+    }
+}
+
+// The command that the words ask for, where it is carried out by several workers.
+fn command_of_several(words: &[String]) -> Option<Command>
+    ensures command { IfSome result (λ command. Ok command ≡ command_of (map string_bytes words.now)) }
+    ensures several { IfSome result (λ command. 1 < workers_for command) }
+    ensures lawful { IfSome result IsLawfulCommand }
+    ensures within { (k : ℕ) (plan : PlanNumbers) (workers : ℕ) → result ≡ Some (Command.Optimise k plan workers) → k < length words.now }
+    ensures none { (command : Command) → result ≡ None → command_of (map string_bytes words.now) ≡ Ok command → workers_for command ≤ 1 }
+{
+    match read_words(words) {
+        Ok(command) => {
+            if workers_for(&command) > 1 {
+                return Some(command);
+            }
+            None
+        }
+        Err(_) => None,
+    }
+}
+
+/// Carries out the command that the words ask for, with as many workers as they say, and then tells the error stream as `run_solo` does.
+/// What it answers and writes is the same for every number of workers and every turnstile, and however the steps of the workers fall;
+/// it waits for its workers, which work one after another where no thread can be made. Several workers share a generation and tell the
+/// turnstile their moments. All else is done as `run_solo` does it.
+pub fn run<I: Source, F: Shelf, O: Sink, E: Sink, T: Turnstile, R: Threads + Wait + Sync>(
+    rt: &R,
     alloc: Global,
     words: &[String],
     input: &mut I,
     shelf: &mut F,
     out: &mut O,
     err: &mut E,
+    stile: &T,
 ) -> Status
     ensures carried_out { IsCarriedOut (WordsAnswer (map string_bytes words.now)) result
         (shown I.Source F.Shelf O.Sink input.old input.new shelf.old shelf.new out.old out.new) }
@@ -159,16 +180,14 @@ pub fn run_solo<I: Source, F: Shelf, O: Sink, E: Sink>(
     ensures err_faults { E.faults err.old ≤ E.faults err.new }
     ensures err_wants { E.wants err.old ≤ E.wants err.new }
 {
-    match read_words(words) {
-        Ok(command) => {
-            let (status, report) = carry_out(alloc, words, command, input, shelf, out);
+    match command_of_several(words) {
+        Some(command) => {
+            let (status, report) = carry_out_by(
+                rt, alloc, words, command, input, shelf, out, stile,
+            );
             tell_end(status, report, err);
             status
         }
-        Err(fault) => {
-            let status = status_of_words(fault);
-            tell(status, err);
-            status
-        }
+        None => run_solo(alloc, words, input, shelf, out, err),
     }
 }

@@ -1,4 +1,4 @@
-use Rattle.std.proofs.Common.{subst, map, string_bytes, refl, ap, inl, inr}
+use Rattle.std.proofs.Common.{subst, sym, ◌∙◌, map, string_bytes, refl, ap, inl, inr}
 use Rattle.qz_io.specs.Transfers.{source_shown}
 use Rattle.qz_top.specs.Answer.{shelf_shown}
 use Rattle.qz_top.specs.declared.words.Command.TheVariants.{Tidy, Optimise, Trial}
@@ -6,16 +6,21 @@ use Rattle.qz_top.specs.Reports.{end_text}
 use Rattle.qz_top.specs.Words.{IsLawfulCommand}
 use Rattle.qz_top.proofs.AnswerTexts.{status_for_err}
 use Rattle.qz_top.proofs.AnswerLemmas.{still, still_not_rose}
-use Rattle.qz_top.proofs.RunLemmas.{carried_by_name, optimised_by_name, needs_by_name, needs_by_name_or, file_by_name}
-use Rattle.qz_top.proofs.run.carry_out.Goals as goal
+use Rattle.qz_top.proofs.RunLemmas.{carried_by_name, optimised_by_name, needs_by_name, needs_by_name_or, file_by_name, same_rules}
+use Rattle.qz_top.proofs.solo.carry_out.Goals as goal
 
 pub returns-in-Generate-clause-carried_out : goal.returns-in-Generate-clause-carried_out
 returns-in-Generate-clause-carried_out g c =
-    rw c.in-Generate.is (c.generate.ensures.carried_out (source_shown g.I.Source c.args.input.now c.args.input.now)
-    (shelf_shown g.F.Shelf c.args.shelf.now c.args.shelf.now) refl refl)
+    rw c.in-Generate.is (c.written.ensures.carried_out _ c.in-Generate.seed (source_shown g.I.Source c.args.input.now c.args.input.now)
+    (shelf_shown g.F.Shelf c.args.shelf.now c.args.shelf.now) c.rules_of-made.ensures refl refl)
 
 pub returns-in-Generate-clause-told : goal.returns-in-Generate-clause-told
-returns-in-Generate-clause-told g c = rw c.in-Generate.is (record { done = c.generate.ensures.report; not_done = λ n. ap (end_text c.generate.result.0) (c.generate.ensures.no_report n) })
+returns-in-Generate-clause-told g c =
+    rw c.in-Generate.is (record { done = c.written.ensures.report _ c.in-Generate.seed c.rules_of-made.ensures; not_done = λ n. ap (end_text c.written.result.0) (c.written.ensures.no_report n) })
+
+pub returns-in-Generate-clause-rules : goal.returns-in-Generate-clause-rules
+returns-in-Generate-clause-rules g c = λ b workers seed report is done.
+    same_rules _ b _ workers _ seed _ report _ _ (sym c.in-Generate.is ∙ is) (c.written.ensures.rules _ c.in-Generate.seed c.rules_of-made.ensures done)
 
 pub returns-in-Tidy-clause-told : goal.returns-in-Tidy-clause-told
 returns-in-Tidy-clause-told g c = rw c.in-Tidy.is (status_for_err Tidy (λ text e. e) c.tidy.result)
