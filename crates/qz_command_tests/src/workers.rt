@@ -84,6 +84,7 @@ fn workers_and_seeds_change_nothing(rt: HostRuntime) -> Result<(), Fail> {
         "generate 3 2 0",
         "generate 3 2 0 --workers 1",
         "generate 3 2 0 --workers 2",
+        "generate 3 2 0 --workers 3",
         "generate 3 2 0 --workers 16",
     ];
     write_the_same(
@@ -93,6 +94,7 @@ fn workers_and_seeds_change_nothing(rt: HostRuntime) -> Result<(), Fail> {
         "quartz-rules 1\nbounds 3 2 0\nclasses ",
     )?;
     let by_seeds = [
+        "generate 2 1 1",
         "generate 2 1 1 --seed 1",
         "generate 2 1 1 --seed 2",
         "generate 2 1 1 --seed 2 --workers 2",
