@@ -32,17 +32,17 @@ advanced s cs = record s { queue = offered_to s.queue cs; best = earliest s.best
 
 module _ (classes : List (List Circuit)) (c : ProgramCircuit) where
   -- the search is one from this circuit by sound classes of rules, in whichever order its children come
-  pub record IsSearch (s : SearchParts) : Type 0 where
+  pub record IsSearch (rules : TableParts) (plan : PlanNumbers) : Type 0 where
     pub sound : (n : ℕ) × (n ≤ 3) × AreSoundClasses n classes
-    pub keeps : KeepsGates (children_by_table s.rules)
-    pub lawful : IsPlan s.plan
+    pub keeps : KeepsGates (children_by_table rules)
+    pub lawful : IsPlan plan
     pub gates : AllByRecursion (IsProgramGate 64) c
     pub few : length c ≤ 20000
-    pub same : best_found (children_by_table s.rules) s.plan c ≡ best_found (children classes) s.plan c
+    pub same : best_found (children_by_table rules) plan c ≡ best_found (children classes) plan c
 
   -- it stands where the definition is after as many rounds as it has had
   pub record IsBetweenRounds (s : SearchParts) : Type 0 where
-    pub search : IsSearch s
+    pub search : IsSearch s.rules s.plan
     pub short : length s.best ≤ 20000
     pub rounds : ℕ
     pub counted : rounds + s.left ≡ s.plan.rounds
