@@ -5,12 +5,12 @@ use Rattle.qz_circ.specs.Circuit.{Circuit}
 use Rattle.qz_circ.specs.ProgramCircuits.{ProgramCircuit, IsProgramGate, IsProgramCircuit, EquivalentProgramCircuits, cost, program_cmp}
 use Rattle.qz_circ.specs.Queue.{QueueList, IsQueue, different, firsts}
 use Rattle.qz_circ.specs.Replacement.{children}
-use Rattle.qz_circ.specs.Search.{PlanNumbers, IsPlan, SearchState, start, earliest, after, best_found}
+use Rattle.qz_circ.specs.Search.{PlanNumbers, IsPlan, start, after}
 use Rattle.qz_circ.specs.declared.circuit.Inst.{Inst}
 use Rattle.qz_queue.specs.Circuits.{circuits}
 use Rattle.qz_rewrite.specs.SoundClasses.{AreSoundClasses}
 use Rattle.qz_queue.proofs.DifferentOnes.{has_take}
-use Rattle.qz_search.specs.Offers.{offered_to, AreFit, IsAt}
+use Rattle.qz_search.specs.Offers.{IsAt}
 use Rattle.qz_search.specs.Tables.{TableParts, AreAlike, children_by_table}
 use Rattle.qz_search.specs.Rounds.{SearchParts, new_children, advanced, IsSearch, IsBetweenRounds, IsInRound, IsFound}
 use Rattle.qz_search.proofs.ChildLaws.{children_equivalent, table_keeps_gates}

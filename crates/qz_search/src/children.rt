@@ -148,7 +148,10 @@ pub(crate) fn offer_children(
     neighbours.renew(c)?;
     let circuits = rules.circuits();
     let sides = rules.sides();
-    let program = Linked { gates: c, neighbours };
+    let program = Linked {
+        gates: c,
+        neighbours,
+    };
     for side in sides {
         offer_side(alloc, test, &program, circuits, side, queue)?;
     }

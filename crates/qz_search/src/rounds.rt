@@ -6,7 +6,7 @@ ghost use Rattle.qz_circ.specs.Circuit.{Circuit};
 ghost use Rattle.qz_circ.specs.ProgramCircuits.{ProgramCircuit, IsProgramGate, EquivalentProgramCircuits, cost, program_cmp};
 ghost use Rattle.qz_circ.specs.Queue.{IsQueue};
 ghost use Rattle.qz_circ.specs.Replacement.{children};
-ghost use Rattle.qz_circ.specs.Search.{best_found, IsComplete, IsReached};
+ghost use Rattle.qz_circ.specs.Search.{IsPlan, best_found, IsComplete, IsReached};
 ghost use Rattle.qz_queue.specs.Circuits.{circuits};
 ghost use Rattle.qz_search.specs.Offers.{is_new, offered_to, AreFit};
 ghost use Rattle.qz_search.specs.Tables.{children_by_table};
@@ -46,12 +46,7 @@ impl Model for Rounds {
 
 impl Rounds {
     /// The search from a circuit by the rules, before its first round.
-    pub fn begin(
-        alloc: Global,
-        rules: &Rules,
-        c: &[Inst],
-        plan: Plan,
-    ) -> Result<Rounds, Memory>
+    pub fn begin(alloc: Global, rules: &Rules, c: &[Inst], plan: Plan) -> Result<Rounds, Memory>
         requires few { length c.now ≤ 20000 }
         requires gates { AllByRecursion (IsProgramGate 64) c.now }
         ensures between { IfOk result (λ s. IsBetweenRounds rules.now.classes c.now s) }
@@ -72,6 +67,14 @@ impl Rounds {
             queue,
             best,
         })
+    }
+
+    /// How many circuits its queue holds at most, from 1 to 500.
+    pub fn cap(&self) -> u64
+        ensures value { result ≡ self.now.plan.cap }
+        ensures lawful { IsPlan self.now.plan }
+    {
+        self.plan.cap()
     }
 
     /// Begins a round: takes the circuits whose children it offers. None where no round is left or the queue is empty, and the best

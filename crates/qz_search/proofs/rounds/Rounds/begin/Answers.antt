@@ -1,6 +1,5 @@
-use Rattle.std.proofs.Common.{rules, [], ◌∷◌, ◌∙◌}
+use Rattle.std.proofs.Common.{[], ◌∷◌, ◌∙◌}
 use Rattle.qz_circ.specs.Queue.{firsts}
-use Rattle.qz_circ.specs.Search.{IsPlan}
 use Rattle.qz_search.proofs.RoundSteps.{by_table, begun}
 use Rattle.qz_search.proofs.rounds.Rounds.begin.Goals as goal
 
