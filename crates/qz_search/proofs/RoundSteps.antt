@@ -1,6 +1,7 @@
 -- What the state of a search is after each step.
 use Rattle.std.proofs.Common.{◌≡◌, ◌≢◌, Option, Some, None, Vec, MatchOption, ◌≤◌, ◌+◌, ◌-◌, ℕ, suc, ◌⊎◌, inl, inr, List, [], ◌∷◌, ◌++◌, length, take, drop, Contains, refl, sym, ap, subst, ◌∙◌, arith}
 use Rattle.std.specs.List.{AllByRecursion}
+use Rattle.std.proofs.lemmas.List.{length-take}
 use Rattle.qz_circ.specs.Circuit.{Circuit}
 use Rattle.qz_circ.specs.ProgramCircuits.{ProgramCircuit, IsProgramGate, IsProgramCircuit, EquivalentProgramCircuits, cost, program_cmp}
 use Rattle.qz_circ.specs.Queue.{QueueList, IsQueue, different, firsts}
@@ -74,6 +75,7 @@ module _ (classes : List (List Circuit)) (c : ProgramCircuit) where
       let waiting = waiting_fit next s.plan of.keeps of.lawful n c s.seen s.queue s.best of.gates of.few h.at in
       record {
         fit = λ k there. waiting.0 k (has_contains s.queue.list k (has_take s.plan.batch s.queue.list k (contains_has (take s.plan.batch s.queue.list) k (subst (λ cs. Contains cs k) batch_is there))));
+        few = omega (arith, of.lawful.few_taken, length-take s.plan.batch s.queue.list, ap length batch_is);
         lawful = queue_rest s.queue queue s.plan.batch lawful queue_is;
         further = record {
           search = of;

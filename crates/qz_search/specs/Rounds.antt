@@ -51,6 +51,7 @@ module _ (classes : List (List Circuit)) (c : ProgramCircuit) where
   -- it has taken these circuits, and is a round further once their new children were offered
   pub record IsInRound (batch : List ProgramCircuit) (s : SearchParts) : Type 0 where
     pub fit : AreFit batch
+    pub few : length batch ≤ 64
     pub lawful : IsQueue s.queue
     pub further : IsBetweenRounds (advanced s (new_children s batch))
 
