@@ -1,7 +1,7 @@
 -- What is gathered of numbers that are drawn one after another and put together.
-use Rattle.std.proofs.Common.{◌≡◌, ◌<◌, ◌≤◌, ◌==◌, ◌||◌, ℕ, zero, suc, ◌⊎◌, inl, inr, true, List, [], ◌∷◌, ◌++◌, length, take, drop, get_or, Contains, Vec, Option, Some, None, Result, Ok, Err, append-nil, drop-cons, sym, refl, ap, subst, ◌∙◌, arith}
+use Rattle.std.proofs.Common.{◌≡◌, ◌<◌, ◌≤◌, ◌==◌, ◌||◌, ℕ, zero, suc, inl, inr, true, List, [], ◌∷◌, ◌++◌, length, take, drop, get_or, Contains, Vec, Some, None, Result, append-nil, drop-cons, sym, refl, ap, subst, ◌∙◌, arith}
 use Rattle.std.specs.Prelude.{IfOk}
-use Rattle.std.specs.List.{filter, flat_map, count_by}
+use Rattle.std.specs.List.{filter, flat_map}
 use Rattle.std.proofs.lemmas.Bool.{eqb-true}
 use Rattle.std.proofs.lemmas.List.{drop_all, get_or-map, length-map}
 use Rattle.std.proofs.lemmas.List.Elements.{filter-append}
@@ -120,10 +120,10 @@ module _ (r : RoundParts) where
       record {
         ended = ap (λ x. x.ended) is ∙ ap (λ x. x || v.ended) a.ended;
         all = merged.all_is
-        ∙ (λ i. record { cap = (a.all i).cap; list = firsts (a.all i).cap ((a.all i).list ++ (b.all i).list) })
-        ∙ (λ i. record { cap = cap; list = first_of_both cap cs ds i })
-        ∙ ap (queue_of r.search) (sym (children_of_both r.search (numbered r.batch u.drawn) (numbered r.batch v.drawn)) ∙ ap (new_children r.search) (sym (flat_map-append (λ d. take 1 (drop d r.batch)) u.drawn v.drawn)))
-        ∙ (λ i. gathered r (sym is i).drawn);
+            ∙ (λ i. record { cap = (a.all i).cap; list = firsts (a.all i).cap ((a.all i).list ++ (b.all i).list) })
+            ∙ (λ i. record { cap = cap; list = first_of_both cap cs ds i })
+            ∙ ap (queue_of r.search) (sym (children_of_both r.search (numbered r.batch u.drawn) (numbered r.batch v.drawn)) ∙ ap (new_children r.search) (sym (flat_map-append (λ d. take 1 (drop d r.batch)) u.drawn v.drawn)))
+            ∙ (λ i. gathered r (sym is i).drawn);
       }
 
   -- the circuits with all numbers
@@ -148,13 +148,13 @@ module _ (r : RoundParts) where
       λ n inside. (let found = counted_there (λ d. d == n) v.drawn (omega (arith, drawn n inside)) in subst (Contains v.drawn) (eqb-true found.0 n found.2) found.1) in
       let moved : (cs ds : List ProgramCircuit) → ((c : ProgramCircuit) → Has cs c → Has ds c) → (k : ProgramCircuit) → Has (new_children s cs) k → Has (new_children s ds) k =
       λ cs ds passes k there. (
-        let kept = filter_has test k (flat_map next cs) there in
-        let found = flat_map_has next cs k kept.0 in
-        has_filter test k (flat_map next ds) (has_flat_map next ds found.0 k (passes found.0 found.1) found.2) kept.1) in
+      let kept = filter_has test k (flat_map next cs) there in
+      let found = flat_map_has next cs k kept.0 in
+      has_filter test k (flat_map next ds) (has_flat_map next ds found.0 k (passes found.0 found.1) found.2) kept.1) in
       is
       ∙ (λ i. record {
         cap = s.plan.cap;
         list = first_same program_cmp_total program_cmp_exact s.plan.cap (new_children s (numbered r.batch v.drawn)) (new_children s r.batch)
-        (moved (numbered r.batch v.drawn) r.batch (batch_has v.drawn))
-        (moved r.batch (numbered r.batch v.drawn) (λ c. has_batch v.drawn c each)) i;
+            (moved (numbered r.batch v.drawn) r.batch (batch_has v.drawn))
+            (moved r.batch (numbered r.batch v.drawn) (λ c. has_batch v.drawn c each)) i;
       })

@@ -6,5 +6,5 @@ mod crew;
 mod gather;
 mod rounds;
 
-pub use rounds::hunt;
 pub use qz_seats::{Moment, Open, Turnstile};
+pub use rounds::hunt;

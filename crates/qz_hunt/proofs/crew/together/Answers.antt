@@ -1,4 +1,3 @@
-use Rattle.std.specs.Prelude.{IfOk}
 use Rattle.qz_hunt.specs.Gathered.{IsGathered}
 use Rattle.qz_search.proofs.RoundLaws.{if_ok_more}
 use Rattle.qz_hunt.proofs.GatherLemmas.{gathered_by_both}

@@ -1,6 +1,5 @@
-use Rattle.std.proofs.Common.{◌≡◌, ap, sym, subst, ◌∙◌, length, arith}
+use Rattle.std.proofs.Common.{ap, sym, subst, ◌∙◌, arith}
 use Rattle.std.proofs.lemmas.List.{length-map}
-use Rattle.qz_queue.specs.Circuits.{circuits}
 use Rattle.qz_search.specs.Rounds.{IsBetweenRounds}
 use Rattle.qz_search.proofs.RoundSteps.{in_round, is_found}
 use Rattle.qz_hunt.proofs.rounds.hunt.Goals as goal

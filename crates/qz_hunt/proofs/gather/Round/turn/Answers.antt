@@ -1,7 +1,7 @@
 use Rattle.std.proofs.Common.{◌≡◌, sym, ap, ◌∙◌, arith}
 use Rattle.qz_queue.specs.Circuits.{circuits}
 use Rattle.qz_hunt.specs.Gathered.{RoundParts, gathered}
-use Rattle.qz_hunt.proofs.GatherLemmas.{circuit_at, drew_one, drew_none}
+use Rattle.qz_hunt.proofs.GatherLemmas.{circuit_at, drew_one}
 use Rattle.qz_hunt.proofs.gather.Round.turn.Goals as goal
 
 pub returns-clause-all : goal.returns-clause-all
