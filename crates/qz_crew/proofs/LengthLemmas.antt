@@ -13,6 +13,7 @@ use Rattle.qz_circ.proofs.ClassLaws.{contains_none}
 use Rattle.qz_finger.specs.Fingerprint.{ProbeParts}
 use Rattle.qz_seats.specs.declared.view.View.{View}
 use Rattle.qz_seats.specs.Receipts.{ReceiptParts}
+use Rattle.qz_seats.proofs.Sums.{counted_there}
 use Rattle.qz_shard.specs.Shards.{ShardParts, IsShard, IsAtHome, home_of}
 use Rattle.qz_repgen.specs.Journals.{AreAtHome}
 use Rattle.qz_repgen.specs.Rounds.{IsKeptOf, IsKeptUpTo}
@@ -22,7 +23,6 @@ use Rattle.qz_repgen.proofs.ShardLemmas.{journal_of_shard, entry_holds, held_sam
 use Rattle.qz_store.specs.Stores.{StoreParts, list_of, old_journal, HasReceipt}
 use Rattle.qz_store.specs.Opening.{IsNumber, AreSixteen, IsNewList, IsOpened}
 use Rattle.qz_store.specs.Closing.{IsGrownShard, IsKeptReceipt, IsClosedStore}
-use Rattle.qz_store.proofs.Counted.{counted_there}
 use Rattle.qz_crew.specs.Works.{IsDone}
 
 -- a list of no length is empty

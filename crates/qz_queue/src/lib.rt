@@ -4,8 +4,8 @@
 
 pub mod laws;
 mod place;
-pub mod queue;
-pub mod seen;
+mod queue;
+mod seen;
 
 pub use queue::Queue;
 pub use seen::Seen;

@@ -61,8 +61,8 @@ fn take_front(list: &mut Vec<Vec<Inst>>, room: Vec<Vec<Inst>>, n: usize) -> Vec<
     ensures capacity { vec_capacity list.new ≡ vec_capacity list.old }
 {
     let mut taken = room;
-    for _ in 0..n {
-        taken.push_reserved(list.remove(0));
+    for c in list.drain(..n) {
+        taken.push_reserved(c);
     }
     taken
 }

@@ -2,7 +2,7 @@
 #![tactic(auto)]
 
 pub mod laws;
-pub mod replacement;
+mod replacement;
 mod sides;
 pub mod worked_values;
 

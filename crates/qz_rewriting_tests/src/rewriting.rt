@@ -37,17 +37,11 @@ fn placed(alloc: Global, c: &[Op], bind: &Binding) -> Result<Vec<Inst>, Memory>
     instance(alloc, c, bind)
 }
 
-// A rotation by a sum that is a full circle is left out, and others have the sum's value.
-#[test]
-fn rotations_by_a_full_circle_are_left_out(rt: HostRuntime) -> Result<(), Fail> {
-    assert!(rt; are_gates(rotation_by_sum(rt.alloc(), 5, 507), &[]));
-    assert!(rt; are_gates(rotation_by_sum(rt.alloc(), 5, 6), &[Inst::Rz(3, 11)]));
-    Ok(())
-}
-
-// Gates of each kind, and angles of each kind.
+// Gates of each kind, and angles of each kind; a rotation by a full circle is left out.
 #[test]
 fn instances_of_each_kind(rt: HostRuntime) -> Result<(), Fail> {
+    assert!(rt; are_gates(rotation_by_sum(rt.alloc(), 5, 507), &[]));
+    assert!(rt; are_gates(rotation_by_sum(rt.alloc(), 5, 6), &[Inst::Rz(3, 11)]));
     let bind = Binding {
         qubits: [Some(63), Some(0), Some(7)],
         params: [Some(1), Some(511), Some(0)],
@@ -112,18 +106,13 @@ fn is_rewritten(out: Result<Option<Vec<Inst>>, Memory>, expected: &[Inst]) -> bo
     }
 }
 
-// Two H around a CX on other qubits are taken out.
+// Two H around a CX on other qubits are taken out. The gates between go to their sides, and a parameter is bound by the left
+// side's angle.
 #[test]
-fn two_h_around_a_gate(rt: HostRuntime) -> Result<(), Fail> {
+fn gates_keep_their_sides(rt: HostRuntime) -> Result<(), Fail> {
     let c = [Inst::H(0), Inst::Cx(1, 2), Inst::H(0)];
     let out = rewritten(rt.alloc(), &[Op::H(0), Op::H(0)], &[], &c, &[0, 2]);
     assert!(rt; is_rewritten(out, &[Inst::Cx(1, 2)]));
-    Ok(())
-}
-
-// The gates between go to their sides, and a parameter is bound by the left side's angle.
-#[test]
-fn gates_keep_their_sides(rt: HostRuntime) -> Result<(), Fail> {
     let left = [Op::Cx(0, 1), Op::X(1)];
     let right = [Op::X(1), Op::Cx(0, 1)];
     let c = [

@@ -14,3 +14,4 @@ pub mod RoundLaws
 pub mod ChildLaws
 pub mod ClassRows
 pub mod TableSearch
+pub mod RoundSteps

@@ -1,5 +1,5 @@
 -- What the lists of a search have.
-use Rattle.std.proofs.Common.{◌≡◌, ℕ, ◌⊎◌, inl, inr, Bool, true, false, cond, ◌||◌, List, [], ◌∷◌, take, drop, Contains, refl, sym, ap, subst, ◌∙◌, Less, Equal, Greater}
+use Rattle.std.proofs.Common.{◌≡◌, ℕ, zero, suc, ◌⊎◌, inl, inr, Bool, true, false, cond, ◌||◌, List, [], ◌∷◌, take, drop, Contains, refl, sym, ap, subst, ◌∙◌, Less, Equal, Greater, arith}
 use Rattle.std.specs.declared.cmp.Ordering.{Ordering}
 use Rattle.std.specs.Ordering.{is_eq, eq_by_cmp}
 use Rattle.std.specs.List.{filter, flat_map}
@@ -10,7 +10,7 @@ use Rattle.qz_circ.specs.ProgramCircuits.{ProgramCircuit, program_cmp}
 use Rattle.qz_circ.specs.Search.{is_among}
 use Rattle.qz_circ.proofs.ProgramOrder.{program_cmp_total, program_cmp_exact}
 use Rattle.qz_queue.proofs.DifferentOnes.{Has, has_append, has_left, has_right}
-use Rattle.qz_queue.proofs.QueueLists.{among_contains, contains_among}
+use Rattle.qz_queue.proofs.QueueLists.{among_contains}
 
 module _ {K : Type 0} where
   pub has_filter : (p : K → Bool) (k : K) (xs : List K) → Has xs k → p k ≡ true → Has (filter p xs) k
@@ -68,8 +68,10 @@ has_among (d ∷ ds) c (inr h) = (λ i. eq_by_cmp program_cmp c d || has_among d
     or_true true = refl
     or_true false = refl
 
-pub contains_has : (cs : List ProgramCircuit) (c : ProgramCircuit) → Contains cs c → Has cs c
-contains_has cs c h = among_has cs c (contains_among cs c h)
+pub contains_has : {K : Type 0} (xs : List K) (k : K) → Contains xs k → Has xs k
+contains_has [] k h = absurd (omega (arith, h.1))
+contains_has (x ∷ xs) k (zero, inside, is) = inl is
+contains_has (x ∷ xs) k (suc i, inside, is) = inr (contains_has xs k (i, omega (arith, inside), is))
 
 pub has_contains : (cs : List ProgramCircuit) (c : ProgramCircuit) → Has cs c → Contains cs c
 has_contains cs c h = among_contains cs c (has_among cs c h)

@@ -4,3 +4,4 @@ pub mod Circuits
 pub mod Classes
 pub mod Renamings
 pub mod Tables
+pub mod Rounds

@@ -11,12 +11,13 @@ ghost use Rattle.qz_search.specs.Offers.{is_new, offered_to};
 ghost use Rattle.qz_search.specs.Tables.{children_of, children_by_table, IsSide};
 
 use crate::circuits::Circuits;
+use crate::filter::Filter;
 use crate::offer::offer_child;
 use crate::prepared::Prepared;
 use crate::table::Side;
 use qz_circ::{Inst, Memory, Op};
 use qz_match::{Neighbours, Place, places_of};
-use qz_queue::{Queue, Seen};
+use qz_queue::Queue;
 use qz_rewrite::replace;
 use qz_subst::instance_len;
 use std::alloc::Global;
@@ -29,66 +30,76 @@ fn is_lost(queue: &Queue, most: u64, n: u64) -> bool
     n > most || queue.is_closed_to_cost(n)
 }
 
-// What a circuit costs with the instance of right in place of left.
-fn new_cost(c: &[Inst], left: &[Op], right: &[Op], place: &Place) -> u64
-    requires short { length c.now ≤ 20004 }
-    requires few { length right.now ≤ 6 }
-    requires place { Contains (places left.now right.now c.now) place.now }
-    ensures { result ≡ cost (replaced c.now right.now place.now) }
-{
-    (c.len() + instance_len(right, &place.binding()) - left.len()) as u64
+// A rule: instances of its left side give way to those of its right side.
+#[derive(Clone, Copy)]
+struct Rule<'a> {
+    left: &'a [Op],
+    right: &'a [Op],
 }
 
-// Offers a circuit with right in place of left at one place. It is made only where it may change the queue.
+// A circuit with its links.
+#[derive(Clone, Copy)]
+struct Linked<'a> {
+    gates: &'a [Inst],
+    neighbours: &'a Neighbours,
+}
+
+// What a circuit costs after one step by a rule.
+fn new_cost(c: &[Inst], rule: &Rule, place: &Place) -> u64
+    requires short { length c.now ≤ 20004 }
+    requires few { length rule.now.right.now ≤ 6 }
+    requires place { Contains (places rule.now.left.now rule.now.right.now c.now) place.now }
+    ensures { result ≡ cost (replaced c.now rule.now.right.now place.now) }
+{
+    (c.len() + instance_len(rule.right, &place.binding()) - rule.left.len()) as u64
+}
+
+// Offers what a circuit becomes by a rule at one place. It is made only where it may change the queue.
 fn offer_at(
     alloc: Global,
-    seen: &Seen,
-    most: u64,
+    test: &Filter,
     c: &[Inst],
-    left: &[Op],
-    right: &[Op],
+    rule: &Rule,
     place: &Place,
     queue: &mut Queue,
 ) -> Result<(), Memory>
     requires lawful { IsQueue queue.old }
     requires gates { AllByRecursion (IsProgramGate 64) c.now }
     requires short { length c.now ≤ 20004 }
-    requires left { IsOn 3 3 left.now }
-    requires right { IsOn 3 3 right.now }
-    requires few { length right.now ≤ 6 }
-    requires place { Contains (places left.now right.now c.now) place.now }
-    ensures { OnOk result (queue.new ≡ offered_to queue.old (filter (is_new seen.now most) (replaced c.now right.now place.now ∷ []))) }
+    requires left { IsOn 3 3 rule.now.left.now }
+    requires right { IsOn 3 3 rule.now.right.now }
+    requires few { length rule.now.right.now ≤ 6 }
+    requires place { Contains (places rule.now.left.now rule.now.right.now c.now) place.now }
+    ensures { OnOk result (queue.new ≡ offered_to queue.old (filter (is_new test.now.seen test.now.most) (replaced c.now rule.now.right.now place.now ∷ []))) }
 {
-    if is_lost(queue, most, new_cost(c, left, right, place)) {
+    if is_lost(queue, test.most, new_cost(c, rule, place)) {
         return Ok(());
     }
-    let child = replace(alloc, c, left, right, place)?;
-    offer_child(seen, most, child, queue);
+    let child = replace(alloc, c, rule.left, rule.right, place)?;
+    offer_child(test, child, queue);
     Ok(())
 }
 
 // The same at each of the places.
 fn offer_right(
     alloc: Global,
-    seen: &Seen,
-    most: u64,
+    test: &Filter,
     c: &[Inst],
-    left: &[Op],
-    right: &[Op],
+    rule: &Rule,
     found: &[Place],
     queue: &mut Queue,
 ) -> Result<(), Memory>
     requires lawful { IsQueue queue.old }
     requires gates { AllByRecursion (IsProgramGate 64) c.now }
     requires short { length c.now ≤ 20004 }
-    requires left { IsOn 3 3 left.now }
-    requires right { IsOn 3 3 right.now }
-    requires few { length right.now ≤ 6 }
-    requires found { found.now ≡ places left.now right.now c.now }
-    ensures { OnOk result (queue.new ≡ offered_to queue.old (filter (is_new seen.now most) (children_by left.now right.now c.now))) }
+    requires left { IsOn 3 3 rule.now.left.now }
+    requires right { IsOn 3 3 rule.now.right.now }
+    requires few { length rule.now.right.now ≤ 6 }
+    requires found { found.now ≡ places rule.now.left.now rule.now.right.now c.now }
+    ensures { OnOk result (queue.new ≡ offered_to queue.old (filter (is_new test.now.seen test.now.most) (children_by rule.now.left.now rule.now.right.now c.now))) }
 {
     for place in found {
-        offer_at(alloc, seen, most, c, left, right, place, queue)?;
+        offer_at(alloc, test, c, rule, place, queue)?;
     }
     Ok(())
 }
@@ -96,27 +107,25 @@ fn offer_right(
 // Offers what a circuit becomes by one left side, with each of its right sides.
 fn offer_side(
     alloc: Global,
-    seen: &Seen,
-    most: u64,
-    c: &[Inst],
-    neighbours: &Neighbours,
+    test: &Filter,
+    c: &Linked,
     circuits: &Circuits,
     side: &Side,
     queue: &mut Queue,
 ) -> Result<(), Memory>
     requires lawful { IsQueue queue.old }
-    requires gates { AllByRecursion (IsProgramGate 64) c.now }
-    requires short { length c.now ≤ 20004 }
-    requires links { AreNeighboursOf c.now neighbours.now }
+    requires gates { AllByRecursion (IsProgramGate 64) c.now.gates.now }
+    requires short { length c.now.gates.now ≤ 20004 }
+    requires links { AreNeighboursOf c.now.gates.now c.now.neighbours.now }
     requires side { IsSide circuits.now side.now }
-    ensures { OnOk result (queue.new ≡ offered_to queue.old (filter (is_new seen.now most) (children_of circuits.now side.now c.now))) }
+    ensures { OnOk result (queue.new ≡ offered_to queue.old (filter (is_new test.now.seen test.now.most) (children_of circuits.now side.now c.now.gates.now))) }
 {
     let left = side.left.as_slice();
-    let found = places_of(alloc, left, &side.walk, c, neighbours)?;
+    let found = places_of(alloc, left, &side.walk, c.gates, c.neighbours)?;
     let rights = side.rights.as_slice();
     for k in rights {
         let right = circuits.at(*k);
-        offer_right(alloc, seen, most, c, left, right, &found, queue)?;
+        offer_right(alloc, test, c.gates, &Rule { left, right }, &found, queue)?;
     }
     Ok(())
 }
@@ -127,21 +136,24 @@ pub(crate) fn offer_children(
     alloc: Global,
     rules: &Prepared,
     neighbours: &mut Neighbours,
-    seen: &Seen,
-    most: u64,
+    test: &Filter,
     c: &[Inst],
     queue: &mut Queue,
 ) -> Result<(), Memory>
     requires lawful { IsQueue queue.old }
     requires gates { AllByRecursion (IsProgramGate 64) c.now }
     requires short { length c.now ≤ 20004 }
-    ensures { OnOk result (queue.new ≡ offered_to queue.old (filter (is_new seen.now most) (children_by_table rules.now c.now))) }
+    ensures { OnOk result (queue.new ≡ offered_to queue.old (filter (is_new test.now.seen test.now.most) (children_by_table rules.now c.now))) }
 {
     neighbours.renew(c)?;
     let circuits = rules.circuits();
     let sides = rules.sides();
+    let program = Linked {
+        gates: c,
+        neighbours,
+    };
     for side in sides {
-        offer_side(alloc, seen, most, c, neighbours, circuits, side, queue)?;
+        offer_side(alloc, test, &program, circuits, side, queue)?;
     }
     Ok(())
 }

@@ -4,14 +4,15 @@
 mod children;
 mod circuits;
 mod class;
+mod filter;
 pub mod laws;
 mod offer;
-pub mod plan;
+mod plan;
 mod prepared;
 mod renaming;
-pub mod rounds;
+mod rounds;
 mod rows;
 mod table;
 
 pub use plan::{Plan, PlanFault};
-pub use rounds::search;
+pub use rounds::{Rounds, search};

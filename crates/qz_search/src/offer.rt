@@ -9,28 +9,22 @@ ghost use Rattle.qz_search.specs.Offers.{is_new, offered_to, AreFit};
 ghost use Rattle.qz_search.specs.Tables.{children_by_table};
 
 use crate::children::offer_children;
+use crate::filter::Filter;
 use crate::prepared::Prepared;
 use qz_circ::{Inst, Memory, prec_insts};
 use qz_match::Neighbours;
 use qz_queue::{Queue, Seen};
 use std::alloc::Global;
 
-// Whether a circuit is new: none of those that were taken, and of at most this cost.
-fn is_offered(seen: &Seen, most: u64, c: &[Inst]) -> bool
-    ensures { result ≡ is_new seen.now most c.now }
-{
-    c.len() as u64 <= most && !seen.contains(c)
-}
-
 // Offers a circuit to the queue where it is new. Most are refused, so this is tested first.
-pub(crate) fn offer_child(seen: &Seen, most: u64, c: Vec<Inst>, queue: &mut Queue)
+pub(crate) fn offer_child(test: &Filter, c: Vec<Inst>, queue: &mut Queue)
     requires { IsQueue queue.old }
-    ensures { queue.new ≡ offered_to queue.old (filter (is_new seen.now most) (c.items ∷ [])) }
+    ensures { queue.new ≡ offered_to queue.old (filter (is_new test.now.seen test.now.most) (c.items ∷ [])) }
 {
     if queue.refuses(&c) {
         return;
     }
-    if is_offered(seen, most, &c) {
+    if test.passes(&c) {
         queue.offer(c);
     }
 }
@@ -39,18 +33,17 @@ pub(crate) fn offer_child(seen: &Seen, most: u64, c: Vec<Inst>, queue: &mut Queu
 pub(crate) fn offer_batch(
     alloc: Global,
     rules: &Prepared,
-    seen: &Seen,
-    most: u64,
+    test: &Filter,
     batch: &[Vec<Inst>],
     queue: &mut Queue,
 ) -> Result<(), Memory>
     requires lawful { IsQueue queue.old }
     requires fit { AreFit (circuits batch.now) }
-    ensures { OnOk result (queue.new ≡ offered_to queue.old (filter (is_new seen.now most) (flat_map (children_by_table rules.now) (circuits batch.now)))) }
+    ensures { OnOk result (queue.new ≡ offered_to queue.old (filter (is_new test.now.seen test.now.most) (flat_map (children_by_table rules.now) (circuits batch.now)))) }
 {
     let mut neighbours = Neighbours::of(alloc, &[])?;
     for c in batch {
-        offer_children(alloc, rules, &mut neighbours, seen, most, c, queue)?;
+        offer_children(alloc, rules, &mut neighbours, test, c, queue)?;
     }
     Ok(())
 }

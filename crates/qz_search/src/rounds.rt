@@ -1,62 +1,144 @@
 //! The search: rounds that take circuits out of a queue and put what they become into it.
-ghost use Rattle.std.specs.Prelude.{◌≡◌, ◌+◌, ◌≤◌, ℕ, false, length, IfOk};
-ghost use Rattle.std.specs.List.{AllByRecursion};
+ghost use Rattle.std.specs.Prelude.{◌≡◌, ℕ, ◌+◌, ◌≤◌, [], false, List, length, IfOk, OnOk, IfSome, MatchOption};
+ghost use Rattle.std.specs.List.{AllByRecursion, filter};
 ghost use Rattle.std.specs.Ordering.{is_lt};
+ghost use Rattle.qz_circ.specs.Circuit.{Circuit};
 ghost use Rattle.qz_circ.specs.ProgramCircuits.{ProgramCircuit, IsProgramGate, EquivalentProgramCircuits, cost, program_cmp};
 ghost use Rattle.qz_circ.specs.Queue.{IsQueue};
 ghost use Rattle.qz_circ.specs.Replacement.{children};
-ghost use Rattle.qz_circ.specs.Search.{SearchState, round, best_found, IsComplete, IsReached};
-ghost use Rattle.qz_search.specs.Offers.{IsAt, AreFit, KeepsGates};
+ghost use Rattle.qz_circ.specs.Search.{IsPlan, best_found, IsComplete, IsReached};
+ghost use Rattle.qz_queue.specs.Circuits.{circuits};
+ghost use Rattle.qz_search.specs.Offers.{is_new, offered_to, AreFit};
 ghost use Rattle.qz_search.specs.Tables.{children_by_table};
+ghost use Rattle.qz_search.specs.Rounds.{new_children, advanced, IsBetweenRounds, IsInRound, IsFound};
 
+use crate::children;
+use crate::filter::Filter;
 use crate::offer::{add_all, copy_of, earlier, offer_batch};
 use crate::plan::Plan;
 use crate::prepared::Prepared;
 use qz_circ::{Inst, Memory};
+use qz_match::Neighbours;
 use qz_queue::{Queue, Seen};
 use qz_rulefile::Rules;
 use std::alloc::Global;
+use std::marker::Model;
 
-// One round: takes circuits out of the queue into those that were taken, offers what they become, and gives the earliest
-// circuit so far.
-fn next_round(
-    alloc: Global,
-    rules: &Prepared,
+/// The rounds of a search that is under way: between two rounds, or in one that has taken circuits out of the queue and has yet to offer what they
+/// become.
+#[derive(Drop)]
+pub struct Rounds {
+    rules: Prepared,
     plan: Plan,
-    seen: &mut Seen,
-    queue: &mut Queue,
-    best: &[Inst],
-) -> Result<Vec<Inst>, Memory>
-    requires lawful { IsQueue queue.old }
-    requires fit { AreFit queue.old.list }
-    requires short { length best.now ≤ 20000 }
-    ensures { (s : SearchState) → IsAt plan s seen.old queue.old best.now → IfOk result (λ b. IsAt plan (round (children_by_table rules.now) plan s) seen.new queue.new b.items) }
-{
-    let most = best.len() as u64 + plan.slack();
-    let batch = queue.take_batch(plan.batch())?;
-    add_all(alloc, seen, &batch)?;
-    offer_batch(alloc, rules, seen, most, &batch, queue)?;
-    earlier(alloc, best, queue)
+    left: u64,
+    test: Filter,
+    queue: Queue,
+    best: Vec<Inst>,
 }
 
-// The circuit that the search by this plan finds.
-fn run(alloc: Global, rules: &Prepared, c: &[Inst], plan: Plan) -> Result<Vec<Inst>, Memory>
-    requires keeps { KeepsGates (children_by_table rules.now) }
-    requires gates { AllByRecursion (IsProgramGate 64) c.now }
-    requires few { length c.now ≤ 20000 }
-    ensures { IfOk result (λ b. b.items ≡ best_found (children_by_table rules.now) plan c.now) }
-{
-    let mut seen = Seen::new(alloc);
-    let mut queue = Queue::new(alloc, plan.cap())?;
-    queue.offer(copy_of(alloc, c)?);
-    let mut best = copy_of(alloc, c)?;
-    for _ in 0..plan.rounds() {
-        if queue.len() == 0 {
-            return Ok(best);
-        }
-        best = next_round(alloc, rules, plan, &mut seen, &mut queue, &best)?;
+impl Model for Rounds {
+    ghost use Rattle.qz_search.specs.Rounds.{SearchParts};
+
+    ghost Value = { SearchParts };
+
+    ghost view = { λ s. record { rules = s.rules; plan = s.plan; left = s.left; seen = s.test.seen; most = s.test.most; queue = s.queue; best = s.best.items } };
+}
+
+impl Rounds {
+    /// The search from a circuit by the rules, before its first round.
+    pub fn begin(alloc: Global, rules: &Rules, c: &[Inst], plan: Plan) -> Result<Rounds, Memory>
+        requires few { length c.now ≤ 20000 }
+        requires gates { AllByRecursion (IsProgramGate 64) c.now }
+        ensures between { IfOk result (λ s. IsBetweenRounds rules.now.classes c.now s) }
+        ensures plan { IfOk result (λ s. s.plan ≡ plan) }
+    {
+        let rules = Prepared::of(alloc, rules)?;
+        let mut queue = Queue::new(alloc, plan.cap())?;
+        queue.offer(copy_of(alloc, c)?);
+        let best = copy_of(alloc, c)?;
+        Ok(Rounds {
+            rules,
+            plan,
+            left: plan.rounds(),
+            test: Filter {
+                seen: Seen::new(alloc),
+                most: 0,
+            },
+            queue,
+            best,
+        })
     }
-    Ok(best)
+
+    /// How many circuits its queue holds at most, from 1 to 500.
+    pub fn cap(&self) -> u64
+        ensures value { result ≡ self.now.plan.cap }
+        ensures lawful { IsPlan self.now.plan }
+    {
+        self.plan.cap()
+    }
+
+    /// Begins a round: takes the circuits whose children it offers. None where no round is left or the queue is empty, and the best
+    /// circuit so far is the one that the search finds.
+    pub fn take_batch(&mut self, alloc: Global) -> Result<Option<Vec<Vec<Inst>>>, Memory>
+        requires { length self.old.best ≤ 20000 }
+        ensures found { (classes : List (List Circuit)) (c : ProgramCircuit) → IsBetweenRounds classes c self.old → IfOk result (λ taken. MatchOption taken (IsFound classes c self.old.plan self.new.best) (λ batch. IsInRound classes c (circuits batch.items) self.new)) }
+        ensures left { IfOk result (λ taken. IfSome taken (λ batch. self.new.left + 1 ≡ self.old.left)) }
+        ensures plan { self.new.plan ≡ self.old.plan }
+    {
+        if self.left == 0 || self.queue.len() == 0 {
+            return Ok(None);
+        }
+        let batch = self.queue.take_batch(self.plan.batch())?;
+        add_all(alloc, &mut self.test.seen, &batch)?;
+        self.test.most = self.best.len() as u64 + self.plan.slack();
+        self.left -= 1;
+        Ok(Some(batch))
+    }
+
+    /// Offers to a queue what a circuit becomes by one step with the rules, where it is new in this round. The links are made to
+    /// be those of this circuit.
+    pub fn offer_children(
+        &self,
+        alloc: Global,
+        neighbours: &mut Neighbours,
+        c: &[Inst],
+        queue: &mut Queue,
+    ) -> Result<(), Memory>
+        requires lawful { IsQueue queue.old }
+        requires gates { AllByRecursion (IsProgramGate 64) c.now }
+        requires short { length c.now ≤ 20004 }
+        ensures { OnOk result (queue.new ≡ offered_to queue.old (filter (is_new self.now.seen self.now.most) (children_by_table self.now.rules c.now))) }
+    {
+        children::offer_children(alloc, &self.rules, neighbours, &self.test, c, queue)
+    }
+
+    // Ends a round with the children of the circuits that it took.
+    fn offer_batch(&mut self, alloc: Global, batch: &[Vec<Inst>]) -> Result<(), Memory>
+        requires lawful { IsQueue self.old.queue }
+        requires fit { AreFit (circuits batch.now) }
+        ensures { OnOk result (self.new ≡ advanced self.old (new_children self.old (circuits batch.now))) }
+    {
+        offer_batch(alloc, &self.rules, &self.test, batch, &mut self.queue)?;
+        self.best = earlier(alloc, &self.best, &self.queue)?;
+        Ok(())
+    }
+
+    /// Ends a round with the circuits of another queue, into which its children were gathered.
+    pub fn merge(&mut self, alloc: Global, found: Queue) -> Result<(), Memory>
+        requires { self.old.queue.cap ≡ found.cap }
+        ensures { OnOk result (self.new ≡ advanced self.old found.list) }
+    {
+        self.queue.merge(found);
+        self.best = earlier(alloc, &self.best, &self.queue)?;
+        Ok(())
+    }
+
+    /// The best circuit so far.
+    pub fn into_best(self) -> Vec<Inst>
+        ensures { result.items ≡ self.best }
+    {
+        self.best
+    }
 }
 
 /// The circuit that the search by this plan finds from a circuit by the rules: the earliest of those that stood in its queue. It
@@ -71,6 +153,9 @@ pub fn search(alloc: Global, rules: &Rules, c: &[Inst], plan: Plan) -> Result<Ve
     ensures equivalent { (q : ℕ) → q ≤ 64 → AllByRecursion (IsProgramGate q) c.now → IfOk result (λ d. EquivalentProgramCircuits q c.now d.items) }
     ensures complete { IsComplete (children rules.now.classes) plan c.now → IfOk result (λ d. (x : ProgramCircuit) → IsReached (children rules.now.classes) (cost d.items + plan.slack) c.now x → is_lt (program_cmp x d.items) ≡ false) }
 {
-    let prepared = Prepared::of(alloc, rules)?;
-    run(alloc, &prepared, c, plan)
+    let mut rounds = Rounds::begin(alloc, rules, c, plan)?;
+    while let Some(batch) = rounds.take_batch(alloc)? {
+        rounds.offer_batch(alloc, &batch)?;
+    }
+    Ok(rounds.into_best())
 }

@@ -1,9 +1,10 @@
 -- Sums over the views of all passes, where one of them changes.
-use Rattle.std.proofs.Common.{◌≡◌, ◌≢◌, ℕ, zero, suc, ◌+◌, ◌≤◌, List, [], ◌∷◌, set, sym, refl, ap, arith}
-use Rattle.std.specs.List.{sum_by}
+use Rattle.std.proofs.Common.{◌≡◌, ◌≢◌, ℕ, zero, suc, ◌+◌, ◌<◌, ◌≤◌, Bool, true, false, cond, Contains, List, [], ◌∷◌, set, sym, refl, ap, arith}
+use Rattle.std.specs.List.{sum_by, count_by}
 use Rattle.std.proofs.lemmas.List.Sums.{sum_by-cons}
 use mathlib.Core.Option.{some, some-injective, some-ne-none}
 use lib.ListN.{get_elem?}
+use Rattle.qz_circ.proofs.ClassLaws.{contains_first, contains_rest}
 
 module _ {A : Type 0} (f : A → ℕ) where
   -- one element is replaced
@@ -74,3 +75,15 @@ module _ {A : Type 0} (f g : A → ℕ) where
       let here = each 0 x refl none in
       let more : sum_by g xs ≡ g v = omega (arith, sum_by-cons g x xs) in
       omega (arith, sum_by-cons f x xs, alone xs k v (λ j u there. each (suc j) u there) at more)
+
+-- where some pass the test, there is one
+pub counted_there : {A : Type 0} (test : A → Bool) (xs : List A) → 0 < count_by test xs → (x : A) × Contains xs x × (test x ≡ true)
+counted_there test [] least = absurd (omega arith)
+counted_there {A} test (x ∷ xs) least = by (counted_there test xs) (test x) refl
+  where
+    by : (0 < count_by test xs → (y : A) × Contains xs y × (test y ≡ true)) → (b : Bool) → test x ≡ b → (y : A) × Contains (x ∷ xs) y × (test y ≡ true)
+    by rest true passes = (x, contains_first x xs, passes)
+    by rest false fails =
+        let none : cond {A = ℕ} (test x) 1 0 ≡ 0 = ap (λ b. cond {A = ℕ} b 1 0) fails in
+        let there = rest (omega (arith, least, sum_by-cons (λ y. cond {A = ℕ} (test y) 1 0) x xs)) in
+        (there.0, contains_rest x xs there.0 there.1, there.2)

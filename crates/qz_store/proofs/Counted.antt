@@ -11,20 +11,8 @@ use Rattle.qz_seats.specs.Receipts.{ReceiptParts}
 use Rattle.qz_seats.specs.Views.{placed}
 use Rattle.qz_seats.specs.SeatRule.{between}
 use Rattle.qz_seats.proofs.Moves.{at_get_or}
-use Rattle.qz_seats.proofs.Sums.{one_le, two_le}
+use Rattle.qz_seats.proofs.Sums.{one_le, two_le, counted_there}
 use Rattle.qz_store.specs.Closing.{HasReceiptAt}
-
--- where some pass the test, there is one
-pub counted_there : {A : Type 0} (test : A → Bool) (xs : List A) → 0 < count_by test xs → (x : A) × Contains xs x × (test x ≡ true)
-counted_there test [] some = absurd (omega arith)
-counted_there {A} test (x ∷ xs) some = by (counted_there test xs) (test x) refl
-  where
-    by : (0 < count_by test xs → (y : A) × Contains xs y × (test y ≡ true)) → (b : Bool) → test x ≡ b → (y : A) × Contains (x ∷ xs) y × (test y ≡ true)
-    by rest true passes = (x, contains_first x xs, passes)
-    by rest false fails =
-        let none : cond {A = ℕ} (test x) 1 0 ≡ 0 = ap (λ b. cond {A = ℕ} b 1 0) fails in
-        let there = rest (omega (arith, some, sum_by-cons (λ y. cond {A = ℕ} (test y) 1 0) x xs)) in
-        (there.0, contains_rest x xs there.0 there.1, there.2)
 
 between_one : (p a b : ℕ) → a ≤ p → p < b → between p a b ≡ 1
 between_one p a b from to = grind (arith, nat_tests)

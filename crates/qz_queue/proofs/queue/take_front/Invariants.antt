@@ -1,7 +1,6 @@
-use Rattle.std.proofs.Common.{◌≡◌, ◌≤◌, ◌+◌, take, drop, vec_len, vec_capacity}
+use Rattle.std.proofs.Common.{◌≡◌, ◌≤◌, ◌++◌, take, vec_capacity}
+use Rattle.std.specs.Vec.Iter.{drain_items}
 use Rattle.qz_queue.proofs.queue.take_front.Given as goal
 
-abbrev pub invariant-loop : goal.invariant-loop
-invariant-loop l =
-    (l.taken.items ≡ take l.counter l.fn.list.items) × (l.list.items ≡ drop l.counter l.fn.list.items) × (vec_len l.taken ≡ l.counter) × (vec_len l.list + l.counter ≡ vec_len l.fn.list)
-    × (l.n ≤ vec_capacity l.taken) × (vec_capacity l.list ≡ vec_capacity l.fn.list)
+abbrev pub invariant-loop-c : goal.invariant-loop-c
+invariant-loop-c l = (l.taken.items ++ drain_items l.c-iterator ≡ take l.n l.fn.list.items) × (l.n ≤ vec_capacity l.taken)

@@ -13,15 +13,15 @@ offer_at-requires-clause-place c =
 
 pub loop-place-preserved : goal.loop-place-preserved
 loop-place-preserved c =
-    let next : PlaceParts → List ProgramCircuit = λ p. replaced c.args.c.now c.args.right.now p ∷ [] in
-    each_step (is_new c.args.seen.now c.args.most) next c.args.found.now c.loop-place.queue c.args.queue.now c.offer_at.new.queue c.loop-place.place-index c.place-item.result c.loop-place.invariant c.loop-place-test.true c.place-item.is c.in_ok-offer_at.ensures
+    let next : PlaceParts → List ProgramCircuit = λ p. replaced c.args.c.now c.args.rule.now.right.now p ∷ [] in
+    each_step (is_new c.args.test.now.seen c.args.test.now.most) next c.args.found.now c.loop-place.queue c.args.queue.now c.offer_at.new.queue c.loop-place.place-index c.place-item.result c.loop-place.invariant c.loop-place-test.true c.place-item.is c.in_ok-offer_at.ensures
 
 pub returns : goal.returns
 unfolding children_by
 returns c =
-    let next : PlaceParts → List ProgramCircuit = λ p. replaced c.args.c.now c.args.right.now p ∷ [] in
-    let test = is_new c.args.seen.now c.args.most in
+    let next : PlaceParts → List ProgramCircuit = λ p. replaced c.args.c.now c.args.rule.now.right.now p ∷ [] in
+    let test = is_new c.args.test.now.seen c.args.test.now.most in
     let over = c.loop-place-test.false in
     each_end test next c.args.found.now c.loop-place.queue c.args.queue.now c.loop-place.place-index c.loop-place.invariant (omega arith)
     ∙ ap (λ ps. offered_to c.args.queue.now (filter test (flat_map next ps))) c.requires.found
-    ∙ ap (λ cs. offered_to c.args.queue.now (filter test cs)) (sym (as_flat (replaced c.args.c.now c.args.right.now) (places c.args.left.now c.args.right.now c.args.c.now)))
+    ∙ ap (λ cs. offered_to c.args.queue.now (filter test cs)) (sym (as_flat (replaced c.args.c.now c.args.rule.now.right.now) (places c.args.rule.now.left.now c.args.rule.now.right.now c.args.c.now)))

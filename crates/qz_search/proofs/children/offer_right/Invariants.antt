@@ -7,4 +7,4 @@ use Rattle.qz_search.proofs.children.offer_right.Given as goal
 
 abbrev pub invariant-loop-place : goal.invariant-loop-place
 invariant-loop-place l =
-    IsOffering l.queue l.fn.queue (filter (is_new l.seen l.most) (flat_map (λ p. replaced l.c l.right p ∷ []) (drop l.place-index l.found))) (filter (is_new l.seen l.most) (flat_map (λ p. replaced l.c l.right p ∷ []) l.found))
+    IsOffering l.queue l.fn.queue (filter (is_new l.test.seen l.test.most) (flat_map (λ p. replaced l.c l.rule.right.now p ∷ []) (drop l.place-index l.found))) (filter (is_new l.test.seen l.test.most) (flat_map (λ p. replaced l.c l.rule.right.now p ∷ []) l.found))

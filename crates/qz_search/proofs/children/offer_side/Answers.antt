@@ -25,8 +25,8 @@ offer_right-requires-clause-found c =
     let right = numbered circuits (get_or c.as_slice-rights.result.now c.loop-k.k-index 0) in
     let rule = right_of circuits side c.as_slice-rights.result.now c.loop-k.k-index c.requires.side c.as_slice-rights.ensures.value c.loop-k-test.true in
     let left = c.as_slice-left.ensures.value in
-    c.deref.ensures.value ∙ c.in_ok-found.ensures ∙ (λ k. all_places (left k) c.args.c.now) ∙ sym (right_places side.left.items right c.args.c.now rule)
-    ∙ (λ k. places (sym left k) (sym c.at-right.ensures k) c.args.c.now)
+    c.deref.ensures.value ∙ c.in_ok-found.ensures ∙ (λ k. all_places (left k) c.args.c.now.gates.now) ∙ sym (right_places side.left.items right c.args.c.now.gates.now rule)
+    ∙ (λ k. places (sym left k) (sym c.at-right.ensures k) c.args.c.now.gates.now)
 
 pub loop-k-preserved : goal.loop-k-preserved
 loop-k-preserved c =
@@ -34,8 +34,8 @@ loop-k-preserved c =
     let rights = c.as_slice-rights.result.now in
     let i = c.loop-k.k-index in
     let k = get_or rights i 0 in
-    let test = is_new c.args.seen.now c.args.most in
-    let next : ℕ → List ProgramCircuit = λ k. children_by side.left.items (numbered c.args.circuits.now k) c.args.c.now in
+    let test = is_new c.args.test.now.seen c.args.test.now.most in
+    let next : ℕ → List ProgramCircuit = λ k. children_by side.left.items (numbered c.args.circuits.now k) c.args.c.now.gates.now in
     let P : List ProgramCircuit → Type 0 = λ cs. c.offer_right.new.queue ≡ offered_to c.loop-k.queue (filter test cs) in
     each_step test next rights c.loop-k.queue c.args.queue.now c.offer_right.new.queue i k c.loop-k.invariant c.loop-k-test.true (sym (get_or_default_zero rights i k c.loop-k-test.true))
-    (subst P (λ j. children_by (c.as_slice-left.ensures.value j) (c.at-right.ensures j) c.args.c.now) c.in_ok-offer_right.ensures)
+    (subst P (λ j. children_by (c.as_slice-left.ensures.value j) (c.at-right.ensures j) c.args.c.now.gates.now) c.in_ok-offer_right.ensures)

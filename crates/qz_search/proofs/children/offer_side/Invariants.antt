@@ -7,4 +7,4 @@ use Rattle.qz_search.proofs.children.offer_side.Given as goal
 
 abbrev pub invariant-loop-k : goal.invariant-loop-k
 invariant-loop-k l =
-    IsOffering l.queue l.fn.queue (filter (is_new l.seen l.most) (children_by_numbers l.circuits l.side.left.items (drop l.k-index l.rights) l.c)) (filter (is_new l.seen l.most) (children_by_numbers l.circuits l.side.left.items l.rights l.c))
+    IsOffering l.queue l.fn.queue (filter (is_new l.test.seen l.test.most) (children_by_numbers l.circuits l.side.left.items (drop l.k-index l.rights) l.c.gates.now)) (filter (is_new l.test.seen l.test.most) (children_by_numbers l.circuits l.side.left.items l.rights l.c.gates.now))

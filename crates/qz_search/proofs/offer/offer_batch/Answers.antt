@@ -10,7 +10,7 @@ pub loop-c-preserved : goal.loop-c-preserved
 loop-c-preserved c =
     let vs = c.args.batch.now in
     let i = c.loop-c.c-index in
-    let test = is_new c.args.seen.now c.args.most in
+    let test = is_new c.args.test.now.seen c.args.test.now.most in
     let next = children_by_table c.args.rules.now in
     let front = batch_front vs i c.c-item.result c.loop-c-test.true c.c-item.is in
     let parts = offers_front test next (circuits (drop i vs)) (circuits (drop (i + 1) vs)) c.c-item.result.items front in

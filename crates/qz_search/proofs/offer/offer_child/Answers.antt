@@ -3,11 +3,11 @@ use Rattle.qz_search.specs.Offers.{is_new}
 use Rattle.qz_search.proofs.Offering.{one_offered, closed_lost}
 use Rattle.qz_search.proofs.offer.offer_child.Goals as goal
 
-pub returns-then-is_offered : goal.returns-then-is_offered
-returns-then-is_offered c =
-    let new : is_new c.args.seen.now c.args.most c.args.c.items ≡ true = rw c.deref-2.ensures.value at (sym c.is_offered.ensures ∙ c.if-is_offered.true) in
+pub returns-then-passes : goal.returns-then-passes
+returns-then-passes c =
+    let new : is_new c.args.test.now.seen c.args.test.now.most c.args.c.items ≡ true = rw c.deref-2.ensures.value at (sym c.passes.ensures ∙ c.if-passes.true) in
     one_offered c.args.queue.now c.offer.new.self c.args.c.items _ new c.offer.ensures.list
 
 pub returns-then-refuses : goal.returns-then-refuses
 returns-then-refuses c =
-    closed_lost c.args.queue.now c.args.seen.now c.args.most c.args.c.items c.requires (rw c.deref.ensures.value at (c.refuses.ensures.same c.if-refuses.true))
+    closed_lost c.args.queue.now c.args.test.now.seen c.args.test.now.most c.args.c.items c.requires (rw c.deref.ensures.value at (c.refuses.ensures.same c.if-refuses.true))

@@ -1,0 +1,2 @@
+-- What workers gather. Reading order: Gathered.
+pub mod Gathered

@@ -1,0 +1,81 @@
+//! The search by several workers.
+ghost use Rattle.std.specs.Prelude.{◌≡◌, ℕ, ◌+◌, ◌≤◌, false, length, IfOk};
+ghost use Rattle.std.specs.List.{AllByRecursion};
+ghost use Rattle.std.specs.Ordering.{is_lt};
+ghost use Rattle.qz_circ.specs.ProgramCircuits.{ProgramCircuit, IsProgramGate, EquivalentProgramCircuits, cost, program_cmp};
+ghost use Rattle.qz_circ.specs.Replacement.{children};
+ghost use Rattle.qz_circ.specs.Search.{best_found, IsComplete, IsReached};
+ghost use Rattle.qz_queue.specs.Circuits.{circuits};
+ghost use Rattle.qz_search.specs.Offers.{AreFit};
+ghost use Rattle.qz_search.specs.Rounds.{new_children, advanced};
+
+use crate::crew::crew;
+use crate::gather::Round;
+use qz_circ::{Inst, Memory};
+use qz_rulefile::Rules;
+use qz_search::{Plan, Rounds};
+use qz_seats::{Seats, Turnstile};
+use std::alloc::Global;
+use std::sync::Wait;
+use std::thread::Threads;
+
+// The rest of a round that has taken these circuits: workers gather what they become, of which there are no more than circuits.
+fn next_round<R: Threads + Wait + Sync, T: Turnstile>(
+    rt: &R,
+    alloc: Global,
+    search: Rounds,
+    batch: Vec<Vec<Inst>>,
+    workers: u64,
+    stile: &T,
+) -> Result<Rounds, Memory>
+    requires some_worker { 1 ≤ workers }
+    requires few_workers { workers ≤ 16 }
+    requires fit { AreFit (circuits batch.items) }
+    requires few { length batch.items ≤ 64 }
+    requires cap { search.queue.cap ≡ search.plan.cap }
+    ensures { IfOk result (λ next. next ≡ advanced search (new_children search (circuits batch.items))) }
+{
+    let limit = batch.len() as u64;
+    let (seats, pass) = Seats::open(alloc, limit, Vec::new(alloc), workers.min(limit).max(1))?;
+    let round = Round {
+        alloc,
+        search,
+        batch,
+        seats,
+    };
+    let (pass, found) = crew(rt, &round, pass, 0, stile);
+    round.seats.close(pass);
+    let mut search = round.search;
+    search.merge(alloc, found?)?;
+    Ok(search)
+}
+
+/// The circuit that the search by this plan finds from a circuit by the rules, by 1 to 16 workers that share the circuits of each round. It is
+/// that of `qz_search::search`, for every number of workers and turnstile and however the steps of the workers fall. It waits for its
+/// workers, which work one after another where no thread can be made. A round has no more workers than circuits, and one alone makes
+/// no thread. Memory where one of them lacked it.
+pub fn hunt<R: Threads + Wait + Sync, T: Turnstile>(
+    rt: &R,
+    alloc: Global,
+    rules: &Rules,
+    c: &[Inst],
+    plan: Plan,
+    workers: u64,
+    stile: &T,
+) -> Result<Vec<Inst>, Memory>
+    requires some_worker { 1 ≤ workers }
+    requires few_workers { workers ≤ 16 }
+    requires few { length c.now ≤ 20000 }
+    requires gates { AllByRecursion (IsProgramGate 64) c.now }
+    ensures best { IfOk result (λ d. d.items ≡ best_found (children rules.now.classes) plan c.now) }
+    ensures cheap { IfOk result (λ d. length d.items ≤ length c.now) }
+    ensures lawful { (q : ℕ) → q ≤ 64 → AllByRecursion (IsProgramGate q) c.now → IfOk result (λ d. AllByRecursion (IsProgramGate q) d.items) }
+    ensures equivalent { (q : ℕ) → q ≤ 64 → AllByRecursion (IsProgramGate q) c.now → IfOk result (λ d. EquivalentProgramCircuits q c.now d.items) }
+    ensures complete { IsComplete (children rules.now.classes) plan c.now → IfOk result (λ d. (x : ProgramCircuit) → IsReached (children rules.now.classes) (cost d.items + plan.slack) c.now x → is_lt (program_cmp x d.items) ≡ false) }
+{
+    let mut rounds = Rounds::begin(alloc, rules, c, plan)?;
+    while let Some(batch) = rounds.take_batch(alloc)? {
+        rounds = next_round(rt, alloc, rounds, batch, workers, stile)?;
+    }
+    Ok(rounds.into_best())
+}

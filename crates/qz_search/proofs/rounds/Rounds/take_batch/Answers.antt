@@ -1,0 +1,27 @@
+use Rattle.std.proofs.Common.{◌≡◌, inl, inr, ◌++◌, take, drop, sym, ap, subst, ◌∙◌, ◌+◌, arith}
+use Rattle.qz_circ.specs.ProgramCircuits.{program_cmp}
+use Rattle.qz_circ.specs.Queue.{different}
+use Rattle.qz_queue.specs.Circuits.{circuits}
+use Rattle.qz_search.specs.Rounds.{SearchParts, IsBetweenRounds}
+use Rattle.qz_search.proofs.Alike.{none_left}
+use Rattle.qz_search.proofs.RoundSteps.{over, taken}
+use Rattle.qz_search.proofs.rounds.Rounds.take_batch.Goals.{then-self-eq0-via-then-self-eq0, then-self-eq0-via-else-self-eq0+then-len-eq0}
+use Rattle.qz_search.proofs.rounds.Rounds.take_batch.Goals as goal
+
+pub returns-then-self-eq0-clause-found : goal.returns-then-self-eq0-clause-found
+returns-then-self-eq0-clause-found c = λ classes d h. over classes d c.args.self.now h (elim c.then-self-eq0.branch [
+  | then-self-eq0-via-then-self-eq0 w ↦ inl (ap (λ s. s.left) (sym c.self.view_is) ∙ w.if-self-eq0.true)
+  | then-self-eq0-via-else-self-eq0+then-len-eq0 w ↦ inr (ap (λ s. s.queue.list) (sym c.self.view_is) ∙ none_left c.self.inside.queue.list (sym w.len.ensures.value ∙ w.if-len-eq0.true))
+])
+
+pub returns-clause-found : goal.returns-clause-found
+returns-clause-found c = λ classes d h.
+    let inside = c.self.inside in
+    let s : SearchParts = record { rules = inside.rules; plan = inside.plan; left = inside.left; seen = inside.test.seen; most = inside.test.most; queue = inside.queue; best = inside.best.items } in
+    let view : c.args.self.now ≡ s = sym c.self.view_is in
+    let left = c.take_batch.new.self in
+    taken classes d s c.add_all.new.seen (circuits c.in_ok-batch.batch.items) (c.len-2.result + c.slack.result) left (subst (IsBetweenRounds classes d) view h) c.len.ensures.lawful (λ e. c.if-self-eq0.false e)
+    (c.in_ok-batch.ensures.taken ∙ (λ i. take (c.batch.ensures.value i) inside.queue.list))
+    (c.in_ok-batch.ensures.rest ∙ (λ i. record { cap = inside.queue.cap; list = drop (c.batch.ensures.value i) inside.queue.list }))
+    (λ all g. c.in_ok-add_all.ensures all g ∙ (λ i. different program_cmp (all ++ circuits (c.deref.ensures.value i))))
+    (omega (arith, c.len-2.ensures, c.slack.ensures.value, inside.best.ok.0))
