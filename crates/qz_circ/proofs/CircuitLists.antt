@@ -14,7 +14,7 @@ length_of_pieces f n same [] = omega arith
 length_of_pieces f n same (x ∷ xs) = omega (arith, length-append (f x) (flat_map f xs), same x, length_of_pieces f n same xs)
 
 -- how many circuits there are of k gates
-pub length-circuits_of : (gates : List Op) (k : ℕ) → length (circuits_of gates k) ≡ length gates ^ k
+length-circuits_of : (gates : List Op) (k : ℕ) → length (circuits_of gates k) ≡ length gates ^ k
 unfolding circuits_of
 length-circuits_of gates zero = sym (pow-zero (length gates))
 length-circuits_of gates (suc k) =
@@ -42,7 +42,7 @@ unfolding all_circuits gate_count
 length-all_circuits b = omega (arith, length_of_lengths (gates_of b) 0 (suc b.n), ap (shorter (length (gates_of b))) (zero-add (suc b.n)))
 
 -- with nine gates or more to choose from, there are not many more shorter circuits than those of the greatest length
-pub shorter_few : (gates n : ℕ) → 9 ≤ gates → 8 * shorter gates (suc n) < 9 * gates ^ n
+shorter_few : (gates n : ℕ) → 9 ≤ gates → 8 * shorter gates (suc n) < 9 * gates ^ n
 shorter_few gates zero h = omega (arith, pow-zero gates)
 shorter_few gates (suc n) h =
     let few = shorter_few gates n h in

@@ -100,7 +100,7 @@ circuits-with_last gates (suc k) =
     more g = map-flat_map (λ c. g ∷ c) (with_last gates) (circuits_of gates k) ∙ flat_map-agree (λ c. map (λ d. g ∷ d) (with_last gates c)) (λ c. with_last gates (g ∷ c)) (λ c. map-map (λ d. g ∷ d) (λ h. c ++ h ∷ []) gates) (circuits_of gates k)
 
 -- every circuit of fewer than n of the gates
-abbrev pub circuits_below : List Op → ℕ → List Circuit
+abbrev circuits_below : List Op → ℕ → List Circuit
 circuits_below gates n = flat_map (circuits_of gates) (below n)
 
 -- the circuits of fewer gates, each with one gate more, and the empty circuit

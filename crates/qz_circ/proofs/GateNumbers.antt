@@ -70,8 +70,8 @@ adjacent (f ∷ g ∷ gs) = is_lt (gate_cmp f g) && adjacent (g ∷ gs)
 -- the angles with m parameters, by their numbers
 pub record AngleTable (m : ℕ) : Type 0 where
   pub count : length (angles m) ≡ angle_count m
-  pub angles_are : angles m ≡ map (angle_at m) (below (angle_count m))
-  pub numbers_are : map (angle_number m) (angles m) ≡ below (angle_count m)
+  angles_are : angles m ≡ map (angle_at m) (below (angle_count m))
+  numbers_are : map (angle_number m) (angles m) ≡ below (angle_count m)
 
 -- the list of angles, computed for each number of parameters
 pub angle_table : (m : ℕ) → m ≤ 3 → AngleTable m
@@ -84,12 +84,12 @@ angle_table (suc (suc (suc (suc m)))) h = absurd (omega arith)
 
 -- the gates on q qubits with m parameters, by their numbers, rising
 pub record GateTable (gates : List Op) (q m : ℕ) : Type 0 where
-  pub gates_are : gates ≡ map (gate_at q m) (below (table_length q m))
-  pub numbers_are : map (gate_number q m) gates ≡ below (table_length q m)
+  gates_are : gates ≡ map (gate_at q m) (below (table_length q m))
+  numbers_are : map (gate_number q m) gates ≡ below (table_length q m)
   pub rising : adjacent gates ≡ true
 
 -- the list of gates, computed for each number of qubits and parameters
-pub gate_table : (n q m : ℕ) → 0 < q → q ≤ 3 → m ≤ 3 → GateTable (gates_of (record { n = n; q = q; m = m })) q m
+gate_table : (n q m : ℕ) → 0 < q → q ≤ 3 → m ≤ 3 → GateTable (gates_of (record { n = n; q = q; m = m })) q m
 unfolding gates_of angles gate_cmp
 gate_table n (suc zero) zero p h k = record { gates_are = refl; numbers_are = refl; rising = refl }
 gate_table n (suc zero) (suc zero) p h k = record { gates_are = refl; numbers_are = refl; rising = refl }
@@ -139,7 +139,7 @@ pub angle_place : (m k : ℕ) (e : Expr) → m ≤ 3 → slice_get (angles m) k 
 angle_place m k e h l = place_of (angle_number m) (angles m) (angle_count m) k e (angle_table m h).numbers_are l
 
 -- the gate at a place
-pub gate_listed : (n q m k : ℕ) → 0 < q → q ≤ 3 → m ≤ 3 → k < table_length q m → slice_get (gates_of (record { n = n; q = q; m = m })) k ≡ Some (gate_at q m k)
+gate_listed : (n q m k : ℕ) → 0 < q → q ≤ 3 → m ≤ 3 → k < table_length q m → slice_get (gates_of (record { n = n; q = q; m = m })) k ≡ Some (gate_at q m k)
 gate_listed n q m k p h j l = listed_at (gate_at q m) (gates_of (record { n = n; q = q; m = m })) (table_length q m) k (gate_table n q m p h j).gates_are l
 
 -- a gate's place
@@ -164,7 +164,7 @@ less_is Equal e = absurd (true≢false (sym e))
 less_is Greater e = absurd (true≢false (sym e))
 
 -- before chains
-pub before_chain : (f g h : Op) → gate_before f g ≡ true → gate_before g h ≡ true → gate_before f h ≡ true
+before_chain : (f g h : Op) → gate_before f g ≡ true → gate_before g h ≡ true → gate_before f h ≡ true
 before_chain f g h p q = ap is_lt (gate_cmp-total.trans f g h (less_is (gate_cmp f g) p) (less_is (gate_cmp g h) q))
 
 -- where each gate is before the next, each is before all later ones

@@ -19,7 +19,7 @@ abbrev pub count_of_one : Exponent → ℤ
 count_of_one e = (if same_exponent zero_exponent e then pos 1 else pos 0) -ℤ (if same_exponent zero_exponent (with_turns e 256) then pos 1 else pos 0)
 
 -- what one way of exponent 1 counts, where a test holds
-pub count-one_if : (test : Bool) (e : Exponent) → count (way_if test (pos 1) zero_exponent) e ≡ (if test then count_of_one e else pos 0)
+count-one_if : (test : Bool) (e : Exponent) → count (way_if test (pos 1) zero_exponent) e ≡ (if test then count_of_one e else pos 0)
 unfolding count total
 count-one_if true e =
     let here = if same_exponent zero_exponent e then pos 1 else pos 0 in
@@ -38,12 +38,12 @@ unfolding paths ways_along
 count_no_gate q i j e = count-identity_ways i j e
 
 -- the ways through one gate more at the end
-pub along_push : {G : Type 0} (through : G → Ways) (q : ℕ) (gates : List G) (g : G) → ways_along through q (gates ++ g ∷ []) ≡ ways_through q (ways_along through q gates) (through g)
+along_push : {G : Type 0} (through : G → Ways) (q : ℕ) (gates : List G) (g : G) → ways_along through q (gates ++ g ∷ []) ≡ ways_through q (ways_along through q gates) (through g)
 unfolding ways_along
 along_push through q gates g = fold_push (λ (ways : Ways) g. ways_through q ways (through g)) identity_ways gates g
 
 -- what the ways through one gate more at the end count, for gates of any kind
-pub count-along_push : {G : Type 0} (through : G → Ways) (q : ℕ) (gates : List G) (g : G) (gate : Gate) (i j : ℕ) (e : Exponent) → through g ≡ gate_ways gate → IsGate q gate → i < 2 ^ q → IsExponent e → count (ways_along through q (gates ++ g ∷ []) i j) e ≡ step gate (λ k. count (ways_along through q gates k j)) i e
+count-along_push : {G : Type 0} (through : G → Ways) (q : ℕ) (gates : List G) (g : G) (gate : Gate) (i j : ℕ) (e : Exponent) → through g ≡ gate_ways gate → IsGate q gate → i < 2 ^ q → IsExponent e → count (ways_along through q (gates ++ g ∷ []) i j) e ≡ step gate (λ k. count (ways_along through q gates k j)) i e
 count-along_push through q gates g gate i j e same is less he =
     let before = ways_along through q gates in
     ap (λ (w : Ways). count (w i j) e) (along_push through q gates g) ∙
@@ -56,6 +56,6 @@ unfolding paths
 count_one_more q c g i j e acts less he = count-along_push entry q c g (as_gate g) i j e (entry_ways g) (gate_is q g acts) less he
 
 -- the same of a program
-pub count_one_more_in_program : (q : ℕ) (c : ProgramCircuit) (g : Inst) (i j : ℕ) (e : Exponent) → IsProgramGate q g → i < 2 ^ q → IsExponent e → count (program_paths q (c ++ g ∷ []) i j) e ≡ step (as_program_gate g) (λ k. count (program_paths q c k j)) i e
+count_one_more_in_program : (q : ℕ) (c : ProgramCircuit) (g : Inst) (i j : ℕ) (e : Exponent) → IsProgramGate q g → i < 2 ^ q → IsExponent e → count (program_paths q (c ++ g ∷ []) i j) e ≡ step (as_program_gate g) (λ k. count (program_paths q c k j)) i e
 unfolding program_paths
 count_one_more_in_program q c g i j e acts less he = count-along_push program_entry q c g (as_program_gate g) i j e (program_entry_ways g) (program_gate_is q g acts) less he

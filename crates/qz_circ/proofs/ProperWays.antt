@@ -19,7 +19,7 @@ proper_through q first second i j = each (below (2 ^ q))
     each (k ∷ ks) = AreProper-append (products (first k j) (second i k)) (flat_map (λ k. products (first k j) (second i k)) ks) (AreProper-products (first k j) (second i k)) (each ks)
 
 -- the ways through some gates after proper ways
-pub proper_after : {G : Type 0} (through : G → Ways) (q : ℕ) (start : Ways) (gates : List G) → ((i j : ℕ) → AreProper (start i j)) → (i j : ℕ) → AreProper (fold (λ ways g. ways_through q ways (through g)) start gates i j)
+proper_after : {G : Type 0} (through : G → Ways) (q : ℕ) (start : Ways) (gates : List G) → ((i j : ℕ) → AreProper (start i j)) → (i j : ℕ) → AreProper (fold (λ ways g. ways_through q ways (through g)) start gates i j)
 proper_after through q start [] h = h
 proper_after through q start (g ∷ gates) h = proper_after through q (ways_through q start (through g)) gates (proper_through q start (through g))
 

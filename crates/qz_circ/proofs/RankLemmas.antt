@@ -29,11 +29,11 @@ unfolding circuit_cmp
 circuit_cmp-total = then_total (on_total length nat_cmp_total) (lists_total gate_cmp-total)
 
 -- no circuit is before itself
-pub not_before_itself : (c : Circuit) → is_before c c ≡ false
+not_before_itself : (c : Circuit) → is_before c c ≡ false
 not_before_itself c = ap is_lt (tied_itself circuit_cmp-total c)
 
 -- of two circuits only one is before the other
-pub before_one_way : (c d : Circuit) → is_before c d ≡ true → is_before d c ≡ false
+before_one_way : (c d : Circuit) → is_before c d ≡ true → is_before d c ≡ false
 before_one_way c d h = ap is_lt (circuit_cmp-total.antisymm d c ∙ ap ordering_reverse (less_is (circuit_cmp c d) h))
 
 -- of two circuits with one length the first different gate decides
@@ -88,7 +88,7 @@ module _ (gates : List Op) (rising : Rising gate_before gates) where
           (circuits_of gates j) (has_length j)
 
 -- the circuits within limits rise
-pub all_rising : (b : Limits) → IsLawful b → Rising is_before (all_circuits b)
+all_rising : (b : Limits) → IsLawful b → Rising is_before (all_circuits b)
 unfolding all_circuits
 all_rising b h = lengths_rising (gates_of b) (gates_rising b h) (suc b.n)
 

@@ -58,7 +58,7 @@ abbrev pub AllBefore : {A : Type 0} → (A → A → Bool) → List A → List A
 AllBefore before xs ys = AllByRecursion (λ x. AllByRecursion (λ y. before x y ≡ true) ys) xs
 
 -- two rising lists end to end, where the first is before the second
-pub rising-append : {A : Type 0} (before : A → A → Bool) (xs ys : List A) → Rising before xs → Rising before ys → AllBefore before xs ys → Rising before (xs ++ ys)
+rising-append : {A : Type 0} (before : A → A → Bool) (xs ys : List A) → Rising before xs → Rising before ys → AllBefore before xs ys → Rising before (xs ++ ys)
 rising-append before [] ys h k l = k
 rising-append before (x ∷ xs) ys h k l = (each-append (λ y. before x y ≡ true) xs ys h.0 l.0, rising-append before xs ys h.1 k l.1)
 

@@ -16,7 +16,7 @@ Shifted u ps rs = (e : Exponent) → IsExponent e → count ps e ≡ count rs (m
 -- ---- their order and their sum
 
 -- one more root, before the others or after them
-pub once_swapped : (k : ℕ) (ps : List Path) → root2_once (root2 k ps) ≡ root2 k (root2_once ps)
+once_swapped : (k : ℕ) (ps : List Path) → root2_once (root2 k ps) ≡ root2 k (root2_once ps)
 unfolding root2
 once_swapped zero ps = refl
 once_swapped (suc k) ps = ap root2_once (once_swapped k ps)
@@ -64,7 +64,7 @@ count_roots (suc h) ps e hp he =
 -- ---- shifted counts
 
 -- counts that are shifted stay so times √2
-pub shifted_once : (u : Exponent) (ps rs : List Path) → AreProper ps → AreProper rs → Shifted u ps rs → Shifted u (root2_once ps) (root2_once rs)
+shifted_once : (u : Exponent) (ps rs : List Path) → AreProper ps → AreProper rs → Shifted u ps rs → Shifted u (root2_once ps) (root2_once rs)
 shifted_once u ps rs hp hr h e he =
     let left = count-root2_once ps e hp he in
     let right = count-root2_once rs (minus e u) hr (minus_proper e u) in
@@ -79,7 +79,7 @@ shifted_root2 zero u ps rs hp hr s = s
 shifted_root2 (suc h) u ps rs hp hr s = shifted_once u (root2 h ps) (root2 h rs) (proper_root2 h ps hp) (proper_root2 h rs hr) (shifted_root2 h u ps rs hp hr s)
 
 -- a root cancels, since twice it doubles
-pub unshifted_once : (u : Exponent) (ps rs : List Path) → AreProper ps → AreProper rs → Shifted u (root2_once ps) (root2_once rs) → Shifted u ps rs
+unshifted_once : (u : Exponent) (ps rs : List Path) → AreProper ps → AreProper rs → Shifted u (root2_once ps) (root2_once rs) → Shifted u ps rs
 unshifted_once u ps rs hp hr h e he =
     let twice = shifted_once u (root2_once ps) (root2_once rs) (AreProper-root2_once ps) (AreProper-root2_once rs) h e he in
     let left = count-root2_twice ps e hp he in

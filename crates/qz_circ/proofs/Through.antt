@@ -111,7 +111,7 @@ leads_else (turn u) c t i k here there = ne_eqb i k (λ h. here (sym h))
 -- ---- what they count
 
 -- ways times one way, if there is one
-pub count-times_if : (test b : Bool) (x : Exponent) (ps : List Path) (e : Exponent) → AreProper ps → IsExponent x → IsExponent e → count (products ps (way_if test (sign_of b) x)) e ≡ (if test then signed b (count ps (minus e x)) else pos 0)
+count-times_if : (test b : Bool) (x : Exponent) (ps : List Path) (e : Exponent) → AreProper ps → IsExponent x → IsExponent e → count (products ps (way_if test (sign_of b) x)) e ≡ (if test then signed b (count ps (minus e x)) else pos 0)
 count-times_if true b x ps e hp hx he = count-times_one b x ps e hp hx he
 count-times_if false b x ps e hp hx he = count-times_none ps e
 

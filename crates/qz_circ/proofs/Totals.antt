@@ -14,7 +14,7 @@ AreProper-append [] rs h k = k
 AreProper-append (p ∷ ps) rs h k = (h.0, AreProper-append ps rs h.1 k)
 
 -- times a sign
-pub times-sign : (b : Bool) (z : ℤ) → z *ℤ sign_of b ≡ signed b z
+times-sign : (b : Bool) (z : ℤ) → z *ℤ sign_of b ≡ signed b z
 times-sign true z = omega (arith, ints)
 times-sign false z = omega (arith, ints)
 
@@ -29,7 +29,7 @@ signed-sub true y z = omega (arith, ints)
 signed-sub false y z = refl
 
 -- ways end to end
-pub total-append : (ps rs : List Path) (e : Exponent) → total (ps ++ rs) e ≡ total ps e +ℤ total rs e
+total-append : (ps rs : List Path) (e : Exponent) → total (ps ++ rs) e ≡ total ps e +ℤ total rs e
 unfolding total
 total-append [] rs e = sym (+ℤ_idl (total rs e))
 total-append (p ∷ ps) rs e =
@@ -74,7 +74,7 @@ part_times b p x e hp hx he =
     picked false s false = refl
 
 -- the signs of ways times one way
-pub total-times_one : (b : Bool) (x : Exponent) (ps : List Path) (e : Exponent) → AreProper ps → IsExponent x → IsExponent e → total (products ps (one_way b x)) e ≡ signed b (total ps (minus e x))
+total-times_one : (b : Bool) (x : Exponent) (ps : List Path) (e : Exponent) → AreProper ps → IsExponent x → IsExponent e → total (products ps (one_way b x)) e ≡ signed b (total ps (minus e x))
 unfolding total
 total-times_one true x [] e hp hx he = refl
 total-times_one false x [] e hp hx he = refl
@@ -85,7 +85,7 @@ total-times_one b x (p ∷ ps) e hp hx he =
     (λ i. here i +ℤ rest i) ∙ sym both
 
 -- ways times none have no signs
-pub total-times_none : (ps : List Path) (e : Exponent) → total (products ps []) e ≡ pos 0
+total-times_none : (ps : List Path) (e : Exponent) → total (products ps []) e ≡ pos 0
 unfolding total
 total-times_none [] e = refl
 total-times_none (p ∷ ps) e = total-times_none ps e
@@ -134,7 +134,7 @@ added : (r a b x y c d : ℤ) → r ≡ c -ℤ d → a ≡ x → b ≡ neg_ℤ y
 added r a b x y c d h k l = omega (arith, ints)
 
 -- ways times the square root of two
-pub total-root2_once : (ps : List Path) (e : Exponent) → AreProper ps → IsExponent e → total (root2_once ps) e ≡ total ps (minus e (turn_of 64)) -ℤ total ps (minus e (turn_of 192))
+total-root2_once : (ps : List Path) (e : Exponent) → AreProper ps → IsExponent e → total (root2_once ps) e ≡ total ps (minus e (turn_of 64)) -ℤ total ps (minus e (turn_of 192))
 unfolding total root2_once
 total-root2_once [] e hp he = refl
 total-root2_once (p ∷ ps) e hp he =
@@ -165,7 +165,7 @@ sub-back : (a b : ℤ) → a -ℤ b ≡ neg_ℤ (b -ℤ a)
 sub-back a b = omega (arith, ints)
 
 -- half a circle further, the count has the other sign
-pub count-half : (ps : List Path) (e : Exponent) → IsExponent e → count ps (with_turns e 256) ≡ neg_ℤ (count ps e)
+count-half : (ps : List Path) (e : Exponent) → IsExponent e → count ps (with_turns e 256) ≡ neg_ℤ (count ps e)
 unfolding count
 count-half ps e he =
     let back : with_turns (with_turns e 256) 256 ≡ e = exponent_eq (with_turns (with_turns e 256) 256) e (omega arith) refl refl refl in

@@ -47,7 +47,7 @@ at_two g a b n apart others = by (cases_eq a n) (cases_eq b n)
     by (inr h) (inr k) = let none = others n (λ s. h (sym s)) (λ s. k (sym s)) in rw (ne_eqb a n h, ne_eqb b n k) (omega (arith, ints))
 
 -- pieces end to end of which all but two count nothing
-pub two_below : (f : ℕ → List Path) (a b n : ℕ) (e : Exponent) → a ≢ b → ((k : ℕ) → k ≢ a → k ≢ b → count (f k) e ≡ pos 0) → count (flat_map f (below n)) e ≡ once_below (λ k. count (f k) e) a n +ℤ once_below (λ k. count (f k) e) b n
+two_below : (f : ℕ → List Path) (a b n : ℕ) (e : Exponent) → a ≢ b → ((k : ℕ) → k ≢ a → k ≢ b → count (f k) e ≡ pos 0) → count (flat_map f (below n)) e ≡ once_below (λ k. count (f k) e) a n +ℤ once_below (λ k. count (f k) e) b n
 two_below f a b zero e apart others = rw (le-ltb a 0 (omega arith), le-ltb b 0 (omega arith)) (count-none e)
 two_below f a b (suc n) e apart others =
     let longer = ap (λ ps. count ps e) (flat_map-below f n) ∙ count-append (flat_map f (below n)) (f n) e in

@@ -114,7 +114,7 @@ IsRight place z (Ok (Some kind, n)) = IsLongest (Some kind) n z × IsWithinLimit
 IsRight place z (Ok (None, n)) = IsLongest None n z
 IsRight place z (Err (LongName p)) = (p ≡ place) × ((n : ℕ) × IsLongest (Some Word) n z × (longest_word < n))
 IsRight place z (Err (BigNumber p)) = (p ≡ place) × ((n value : ℕ) × IsLongest (Some (Whole value)) n z × (most_digits < n))
-IsRight place z (Err (BadByte p)) = (p ≡ place) × ((what : Option Kind) (x rest : List ℕ) → z ≡ x ++ rest → IsTextOf what x → ⊥)
+IsRight place z (Err (BadByte p)) = (p ≡ place) × (0 < length z) × ((what : Option Kind) (x rest : List ℕ) → z ≡ x ++ rest → IsTextOf what x → ⊥)
 IsRight place z (Err Memory) = ⊥
 
 -- ---- whole texts
@@ -138,7 +138,8 @@ abbrev pub AreInOrder : List ℕ → ℕ → ℕ → List Token → Type 0
 AreInOrder z from to [] = AreGaps z from to
 AreInOrder z from to (t ∷ ts) = (from ≤ t.start) × AreGaps z from t.start × HasItsText z t × AreInOrder z t.end to ts
 
--- The tokens of a text stand in order from its first byte to its end; or they stand so up to a place, and at it is the fault.
+-- The tokens of a text stand in order from its first byte to its end; or they stand so up to a place before the end, and at it
+-- is the fault.
 abbrev pub IsCut : List ℕ → Result (List Token) LexFault → Type 0
 IsCut z (Ok ts) = AreInOrder z 0 (length z) ts
 IsCut z (Err e) = (ts : List Token) × (place : ℕ) × AreInOrder z 0 place ts × IsRight place (drop place z) (Err e)

@@ -1,7 +1,7 @@
 //! Gates of rewrite rules and of programs. A circuit is a list of gates, applied from left to right.
 
 /// The angle of a rotation in a rule.
-#[derive(Clone, Copy, Debug, PartialEq, Eq, PartialOrd, Ord)]
+#[derive(Clone, Copy, PartialEq, Eq, PartialOrd, Ord)]
 pub enum Expr {
     /// A number from 1 to 7, of eighths of a full circle (π/4).
     Const(u8),
@@ -14,7 +14,7 @@ pub enum Expr {
 }
 
 /// A gate of a rule, of Nam's gate set, on qubits that are numbered from 0.
-#[derive(Clone, Copy, Debug, PartialEq, Eq, PartialOrd, Ord)]
+#[derive(Clone, Copy, PartialEq, Eq, PartialOrd, Ord)]
 pub enum Op {
     /// The Hadamard gate.
     H(u8),

@@ -8,7 +8,7 @@ use std::alloc::Global;
 use std::marker::Model;
 
 /// Lists of ranks of circuits within bounds.
-#[derive(Debug, Drop)]
+#[derive(Drop)]
 pub struct Classes {
     alloc: Global,
     bounds: Bounds,
@@ -16,12 +16,13 @@ pub struct Classes {
 }
 
 impl Model for Classes {
-    ghost use Rattle.std.specs.Prelude.{map, All};
+    ghost use Rattle.std.specs.Prelude.{All};
     ghost use Rattle.qz_circ.specs.ClassLists.{ClassLists, AreRanks};
+    ghost use Rattle.qz_circ.specs.Vectors.{lists_of};
 
     ghost Value = { ClassLists };
 
-    ghost view = { λ c. record { bounds = c.bounds; lists = map (λ list. list.items) c.lists.items } };
+    ghost view = { λ c. record { bounds = c.bounds; lists = lists_of c.lists.items } };
 
     ghost invariant = { λ c. All (λ list. AreRanks c.bounds list.items) c.lists.items };
 }

@@ -1,7 +1,7 @@
 //! The gates that programs name.
 
 /// A gate that a program may name. What it stands for, up to a global phase, is said by the gates that it is read as.
-#[derive(Clone, Copy, Debug, PartialEq, Eq)]
+#[derive(Clone, Copy, PartialEq, Eq)]
 pub enum GateName {
     /// `h`
     H,

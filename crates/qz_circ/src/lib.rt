@@ -3,21 +3,21 @@
 //! angles, grammar and texts.
 #![tactic(auto)]
 
-pub mod binding;
-pub mod bound;
-pub mod circuit;
-pub mod class_list;
-pub mod fault;
-pub mod gate_name;
+mod binding;
+mod bound;
+mod circuit;
+mod class_list;
+mod fault;
+mod gate_name;
 pub mod laws;
-pub mod order;
-pub mod program;
-pub mod program_limits;
-pub mod ranks;
-pub mod report;
-pub mod states;
-pub mod step_count;
-pub mod token;
+mod order;
+mod program;
+mod program_limits;
+mod ranks;
+mod report;
+mod states;
+mod step_count;
+mod token;
 pub mod worked_places;
 pub mod worked_programs;
 pub mod worked_searches;

@@ -38,7 +38,7 @@ impl Register {
 }
 
 /// An operand of a barrier or a measurement: a whole register, or one place of it.
-#[derive(Clone, Copy, Debug, PartialEq, Eq)]
+#[derive(Clone, Copy, PartialEq, Eq)]
 pub struct Arg {
     /// The number of the register among those of its kind, from 0 on.
     pub register: u8,

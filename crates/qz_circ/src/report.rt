@@ -1,7 +1,7 @@
 //! What a generation counts.
 
 /// The counts of a generation within bounds.
-#[derive(Clone, Copy, Debug, PartialEq, Eq)]
+#[derive(Clone, Copy, PartialEq, Eq)]
 pub struct Report {
     /// The sum, over the lengths below the bounds' n, of the number of representatives of that length times the number
     /// of gates within the bounds.

@@ -1,7 +1,7 @@
 //! Tokens, into which the text of a program is cut.
 
 /// What a token is.
-#[derive(Clone, Copy, Debug, PartialEq, Eq)]
+#[derive(Clone, Copy, PartialEq, Eq)]
 pub enum Kind {
     /// A letter, then letters, digits and `_`; at most 64 bytes, and not `pi`.
     Word,
@@ -46,7 +46,7 @@ pub enum Kind {
 }
 
 /// A token of a text: its bytes are those from `start` to before `end`, counted from 0.
-#[derive(Clone, Copy, Debug, PartialEq, Eq)]
+#[derive(Clone, Copy, PartialEq, Eq)]
 pub struct Token {
     /// What it is.
     pub kind: Kind,

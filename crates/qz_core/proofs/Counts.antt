@@ -19,7 +19,7 @@ times-cons : (r x : ℕ) (xs : List ℕ) → times r (x ∷ xs) ≡ same x r + t
 times-cons r x xs = sum_by-cons (λ y. cond (y == r) 1 0) x xs
 
 -- the first such rank is taken out
-pub times-remove : (r s : ℕ) (xs : List ℕ) → list_any (λ x. x == s) xs ≡ true → times r (remove_key (λ x. x == s) xs) + same s r ≡ times r xs
+times-remove : (r s : ℕ) (xs : List ℕ) → list_any (λ x. x == s) xs ≡ true → times r (remove_key (λ x. x == s) xs) + same s r ≡ times r xs
 times-remove r s [] h = cc
 times-remove r s (x ∷ xs) h = by (x == s) refl (times-remove r s xs)
   where

@@ -1,7 +1,8 @@
 -- What is held in memory of a round, before and after a call.
 use Rattle.std.proofs.Common.{◌≡◌, ◌<◌, ℕ, ◌+◌, true, List, [], length, get_or, Vec, sym, ap, subst, ◌∙◌, arith}
 use Rattle.std.proofs.lemmas.List.{get_or-map, length-map}
-use Rattle.qz_core.specs.HeldRound.{lists_of, round_of, HaveRoom, IsHeld}
+use Rattle.qz_circ.specs.Vectors.{lists_of}
+use Rattle.qz_core.specs.HeldRound.{round_of, HaveRoom, IsHeld}
 use Rattle.qz_core.specs.RoundMachine.{with_entry, without_entry, home_among, is_pending, RoundState, claimed, put, IsRound}
 use Rattle.qz_core.proofs.Rounds.{claimed_more, put_more}
 

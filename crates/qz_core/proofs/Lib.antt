@@ -1,6 +1,6 @@
 pub mod Counts
-pub mod Rising
+mod Rising
 pub mod Rounds
 pub mod Interleavings
 pub mod Vectors
-pub mod HeldRounds
+mod HeldRounds

@@ -9,7 +9,7 @@ use Rattle.std.proofs.lemmas.List.Kept.{AllPairs-from_increasing}
 use Rattle.std.proofs.lemmas.List.Sums.{position_or_len_is, fails_before_first}
 use Rattle.std.proofs.lemmas.List.Folds.{list_any_none, list_any_at}
 use Rattle.std.proofs.lemmas.List.Quantifiers.{position-Some}
-use Rattle.qz_core.specs.HeldRound.{lists_of}
+use Rattle.qz_circ.specs.Vectors.{lists_of}
 use Rattle.qz_core.specs.RoundMachine.{home_among, IsRoundOf}
 
 module _ {A : Type 0} where

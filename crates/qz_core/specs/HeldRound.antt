@@ -1,12 +1,9 @@
 -- What a round in memory keeps.
-use Rattle.std.specs.Prelude.{ℕ, ◌≤◌, List, map, All, Vec, vec_capacity, length}
+use Rattle.std.specs.Prelude.{ℕ, ◌≤◌, List, All, Vec, vec_capacity, length}
+use Rattle.qz_circ.specs.Vectors.{lists_of}
 use Rattle.qz_core.specs.RoundMachine.{RoundState, IsRound}
 
 module _ {A : Type 0} where
-  -- the lists that some vectors hold
-  abbrev pub lists_of : List (Vec ℕ A) → List (List ℕ)
-  lists_of vectors = map (λ v. v.items) vectors
-
   -- the round that the parts of one in memory stand for
   abbrev pub round_of : List ℕ → List ℕ → ℕ → List (Vec ℕ A) → List (Vec ℕ A) → RoundState
   round_of list homes next pending shards =

@@ -4,7 +4,7 @@
 
 pub mod laws;
 mod lists;
-pub mod round;
+mod round;
 #[cfg(test)]
 mod tests;
 

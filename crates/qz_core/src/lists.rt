@@ -1,7 +1,8 @@
 //! Lists of ranks in vectors that have room for all that they ever hold.
 ghost use Rattle.std.specs.Prelude.{◌≡◌, ℕ, ◌<◌, ◌==◌, true, [], List, length, replicate, slice_index_or, slice_set, vec_len, IsTrue, IfOk, ◌↔◌};
 ghost use Rattle.std.specs.List.{remove, list_all, position};
-ghost use Rattle.qz_core.specs.HeldRound.{lists_of, HaveRoom};
+ghost use Rattle.qz_circ.specs.Vectors.{lists_of};
+ghost use Rattle.qz_core.specs.HeldRound.{HaveRoom};
 ghost use Rattle.qz_core.specs.RoundMachine.{with_entry, home_among, IsRoundOf};
 
 use qz_circ::Memory;

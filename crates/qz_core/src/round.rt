@@ -24,7 +24,8 @@ pub struct Round {
 
 impl Model for Round {
     ghost use Rattle.qz_core.specs.RoundMachine.{RoundState};
-    ghost use Rattle.qz_core.specs.HeldRound.{lists_of, round_of, IsHeld};
+    ghost use Rattle.qz_circ.specs.Vectors.{lists_of};
+    ghost use Rattle.qz_core.specs.HeldRound.{round_of, IsHeld};
 
     ghost Value = { RoundState };
 

@@ -49,7 +49,7 @@ entries_on : (q : ℕ) (y : Entries) (c : Circuit) → y.q ≡ q → StandsFor y
 entries_on q y c same is = subst (λ p. (i j : ℕ) → i < 2 ^ p → j < 2 ^ p → HasCounts (paths p c i j) (entry_at y i j)) same is.entries
 
 -- the circuits of two matrices, of which the first has d halves more, are equivalent exactly where the first is a monomial times the second, times √2 as often as d says
-pub equivalent_matrices : (d : ℕ) (x y : Entries) (a c : Circuit) → y.q ≡ x.q → x.halves ≡ y.halves + d → StandsFor x a → StandsFor y c → (Equivalent x.q a c ↔ HasPhase d x y)
+equivalent_matrices : (d : ℕ) (x y : Entries) (a c : Circuit) → y.q ≡ x.q → x.halves ≡ y.halves + d → StandsFor x a → StandsFor y c → (Equivalent x.q a c ↔ HasPhase d x y)
 unfolding scaled_ways
 equivalent_matrices d x y a c qubits more first second =
     let both : halves a ≡ halves c + d = omega (arith, first.halves, second.halves) in

@@ -1,4 +1,4 @@
 pub mod WorkedValues
-pub mod RootLemmas
-pub mod PhaseLemmas
-pub mod DecisionLemmas
+mod RootLemmas
+mod PhaseLemmas
+mod DecisionLemmas

@@ -90,7 +90,7 @@ coefficient_none_or_some [] e = inl refl
 coefficient_none_or_some (t ∷ ts) e = one_more t ts e (same_exponent t.exponent e) refl (coefficient_none_or_some ts e)
 
 -- a count that isn't 0 is that of a term with the exponent or with half a circle more
-pub counted_term : (ts : Terms) (e : Monomial) → count ts e ≢ pos 0 → HasTerm ts e ⊎ HasTerm ts (with_turns e 256)
+counted_term : (ts : Terms) (e : Monomial) → count ts e ≢ pos 0 → HasTerm ts e ⊎ HasTerm ts (with_turns e 256)
 counted_term ts e counted =
     ⊎_elim
     (λ none. ⊎_elim (λ none_half. absurd (counted (neither none none_half))) (λ some. inr some) (coefficient_none_or_some ts (with_turns e 256)))
@@ -154,7 +154,7 @@ answer_no h = (λ t. absurd (clash t), λ p. absurd (h p))
     clash t = cc
 
 -- a monomial that takes one matrix to another keeps which entries are zero
-pub phase_alike : (d : ℕ) (x y : Entries) → HasPhase d x y → AreAlikeMatrices x y
+phase_alike : (d : ℕ) (x y : Entries) → HasPhase d x y → AreAlikeMatrices x y
 phase_alike d x y phase j column i row = multiple_alike d phase.0 (entry_at x i j) (entry_at y i j) phase.1 (phase.2 j column i row)
 
 -- so there is none where they differ in that
@@ -174,6 +174,6 @@ zero_phase d x y alike none = (
 )
 
 -- a phase takes the lead to an exponent that the other entry counts
-pub lead_counted : (d : ℕ) (x y : Entries) (found : ℕ × ℕ × Monomial) (other : Terms) → IsPivot x found → IsTimesRoots d (entry_at y found.1 found.0) other → (u : Monomial) → IsMonomial u → IsMultipleMatrix d u x y → count other (minus found.2 u) ≢ pos 0
+lead_counted : (d : ℕ) (x y : Entries) (found : ℕ × ℕ × Monomial) (other : Terms) → IsPivot x found → IsTimesRoots d (entry_at y found.1 found.0) other → (u : Monomial) → IsMonomial u → IsMultipleMatrix d u x y → count other (minus found.2 u) ≢ pos 0
 lead_counted d x y found other pivot times u proper is none =
     pivot.1.1.counted (is found.0 pivot.0 found.1 pivot.1.0 found.2 pivot.1.1.proper ∙ sym (times (minus found.2 u) (omega arith)) ∙ none)

@@ -51,12 +51,12 @@ pub inverse_is : (seed q : ℕ) → IsValue minus_one root_two (value_at inverse
 inverse_is seed q = is_value minus_one root_two inverse_turn_root (inverted (bases_of seed q)) (inverted_are modulus (bases_of seed q) (bases_are seed q)) refl refl refl
 
 -- ways through a circuit are worth as much by one turn as by 64
-pub value_of_paths : (seed q : ℕ) (c : Circuit) (i j : ℕ) → Same modulus (value_of minus_one (value (bases_of seed q)) (paths q c i j)) (value_of minus_one (value_at turn_root (bases_of seed q)) (paths q c i j))
+value_of_paths : (seed q : ℕ) (c : Circuit) (i j : ℕ) → Same modulus (value_of minus_one (value (bases_of seed q)) (paths q c i j)) (value_of minus_one (value_at turn_root (bases_of seed q)) (paths q c i j))
 unfolding bases_of
 value_of_paths seed q c i j = value_of_eighths minus_one turn_root (bases_of seed q) (paths q c i j) refl (eighths_paths q c i j)
 
 -- and so by the inverse bases
-pub inverse_of_paths : (seed q : ℕ) (c : Circuit) (i j : ℕ) → Same modulus (value_of minus_one (value (inverted (bases_of seed q))) (paths q c i j)) (value_of minus_one (value_at inverse_turn_root (inverted (bases_of seed q))) (paths q c i j))
+inverse_of_paths : (seed q : ℕ) (c : Circuit) (i j : ℕ) → Same modulus (value_of minus_one (value (inverted (bases_of seed q))) (paths q c i j)) (value_of minus_one (value_at inverse_turn_root (inverted (bases_of seed q))) (paths q c i j))
 unfolding bases_of
 inverse_of_paths seed q c i j = value_of_eighths minus_one inverse_turn_root (inverted (bases_of seed q)) (paths q c i j) refl (eighths_paths q c i j)
 

@@ -1,16 +1,16 @@
-pub mod Modular
-pub mod WayValues
-pub mod WeighedSums
-pub mod Bases
-pub mod Eighths
+mod Modular
+mod WayValues
+mod WeighedSums
+mod Bases
+mod Eighths
 pub mod Law
-pub mod Lists
-pub mod PlaceLemmas
-pub mod StepValues
-pub mod StandsLemmas
-pub mod ProbeTables
-pub mod Powers
-pub mod Worths
-pub mod SumLemmas
-pub mod RowLemmas
-pub mod ExtensionLemmas
+mod Lists
+mod PlaceLemmas
+mod StepValues
+mod StandsLemmas
+mod ProbeTables
+mod Powers
+mod Worths
+mod SumLemmas
+mod RowLemmas
+mod ExtensionLemmas

@@ -29,7 +29,7 @@ pub zeros_below : (n : ℕ) → AreBelow (replicate n 0)
 zeros_below n k = omega (arith, zeros_at n k)
 
 -- one more number below p
-pub below_set : (xs : List ℕ) (k x : ℕ) → k < length xs → AreBelow xs → x < modulus → AreBelow (slice_set xs k x)
+below_set : (xs : List ℕ) (k x : ℕ) → k < length xs → AreBelow xs → x < modulus → AreBelow (slice_set xs k x)
 below_set xs k x less below here m = by (cases_eq m k)
   where
     by : (m ≡ k) ⊎ (m ≡ k → ⊥) → slice_index (slice_set xs k x) m < modulus

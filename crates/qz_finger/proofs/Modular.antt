@@ -28,7 +28,7 @@ pub same_pow : (m a b k : ℕ) → Same m a b → Same m (a ^ k) (b ^ k)
 same_pow m a b k h = sym (pow-mod a k m) ∙ ap (λ x. x ^ k % m) h ∙ pow-mod b k m
 
 -- a number and its opposite cancel
-pub opposite_cancels : (n x : ℕ) → Same (n + 1) (x + n * x) 0
+opposite_cancels : (n x : ℕ) → Same (n + 1) (x + n * x) 0
 opposite_cancels n x = same_by (n + 1) (x + n * x) 0 0 x (omega arith)
 
 -- the opposite of the opposite

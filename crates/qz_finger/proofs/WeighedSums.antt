@@ -15,7 +15,7 @@ use Rattle.qz_finger.proofs.Modular.{Same, same_by, same_add, same_mul, same_pow
 use Rattle.qz_finger.proofs.WayValues.{IsValue, value_shifted, value_root2}
 
 -- sums of numbers that are k times others
-pub sum_scaled : (m k : ℕ) (f g : ℕ → ℕ) (size : ℕ) → ((i : ℕ) → i < size → Same m (f i) (k * g i)) → Same m (sum_below f size) (k * sum_below g size)
+sum_scaled : (m k : ℕ) (f g : ℕ → ℕ) (size : ℕ) → ((i : ℕ) → i < size → Same m (f i) (k * g i)) → Same m (sum_below f size) (k * sum_below g size)
 unfolding sum_below
 sum_scaled m k f g zero each = same_by m 0 (k * 0) 0 0 (omega arith)
 sum_scaled m k f g (suc size) each =
@@ -39,7 +39,7 @@ weighed_scaled m k n v v' w size x y each =
     same_by m (w i j * (k * value_of n v' (y i j))) (k * (w i j * value_of n v' (y i j))) 0 0 (omega arith)))
 
 -- circuits of which one, times roots, is a monomial times the other
-pub weighed_equivalent : (n r : ℕ) (v : Exponent → ℕ) → IsValue n r v → (w : ℕ → ℕ → ℕ) (q : ℕ) (u : Exponent) (a c : Circuit) → SameUpTo q u (scaled_ways q a c) (scaled_ways q c a) →
+weighed_equivalent : (n r : ℕ) (v : Exponent → ℕ) → IsValue n r v → (w : ℕ → ℕ → ℕ) (q : ℕ) (u : Exponent) (a c : Circuit) → SameUpTo q u (scaled_ways q a c) (scaled_ways q c a) →
     Same (n + 1) (r ^ halves c * weighed n v w (2 ^ q) (paths q a)) (v u * (r ^ halves a * weighed n v w (2 ^ q) (paths q c)))
 unfolding scaled_ways
 weighed_equivalent n r v is w q u a c same =

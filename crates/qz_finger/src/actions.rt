@@ -14,9 +14,9 @@ use crate::modulo::{add, multiply_where, subtract};
 use crate::tables::{Tables, value_of_angle};
 use qz_circ::{Op, flipped_state, has_bit};
 
-/// What a gate does with the values of two places that differ in its target.
+// What a gate does with the values of two places that differ in its target.
 #[derive(Clone, Copy)]
-pub(crate) enum Action {
+enum Action {
     /// Adds both, or subtracts where the target is 1: H.
     Mix,
     /// Takes the other one: X.
@@ -30,9 +30,9 @@ pub(crate) enum Action {
 /// A gate on the qubits of places. Without a control the target stands for it.
 #[derive(Clone, Copy)]
 pub(crate) struct Step {
-    pub(crate) action: Action,
-    pub(crate) control: u8,
-    pub(crate) target: u8,
+    action: Action,
+    control: u8,
+    target: u8,
 }
 
 // The sum, or the difference where the target is 1.

@@ -18,10 +18,10 @@ use qz_circ::Op;
 /// values. For each two qubits c and t, in place 3·c + t: the sum with t flipped in the values over the rows where c is 1.
 #[derive(Clone, Copy)]
 pub(crate) struct Sums {
-    pub(crate) kept: [u64; 3],
-    pub(crate) cleared: [u64; 3],
-    pub(crate) flipped: [u64; 3],
-    pub(crate) crossed: [u64; 9],
+    kept: [u64; 3],
+    cleared: [u64; 3],
+    flipped: [u64; 3],
+    crossed: [u64; 9],
 }
 
 // The numbers of three columns, row by row.

@@ -1,3 +1,3 @@
 mod ToldLemmas
 mod ReadingLemmas
-pub mod ShelfLemmas
+mod ShelfLemmas

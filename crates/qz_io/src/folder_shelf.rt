@@ -1,9 +1,8 @@
 //! The files of the system as a shelf.
-ghost use Rattle.std.specs.Prelude.{◌≡◌, ◌≢◌, ◌≤◌, true, false, IsTrue, length, None, IfOk, OnErr, IfErr};
+ghost use Rattle.std.specs.Prelude.{◌≡◌, ◌≢◌, ◌≤◌, true, false, IsTrue, length, None, IfOk, OnErr};
 ghost use Rattle.std.specs.Io.KnownBytes.{ReadConsumes};
-ghost use Rattle.std.specs.IoError.{error_kind};
 ghost use Rattle.qz_io.specs.Counts.{counted};
-ghost use Rattle.qz_io.specs.DirShelf.{Opened};
+ghost use Rattle.qz_io.specs.DirShelf.{Opened, IsKept};
 
 use crate::fault::IoFault;
 use crate::shelf::Shelf;
@@ -53,12 +52,7 @@ impl<D: Files + Drop> DirShelf<D> {
     // Keeps what an opening gave: the file; or none, where the system reports that there is no such file. Any other
     // error is counted, and leaves open what was open.
     fn keep(&mut self, opened: io::Result<D::File>) -> Result<bool, IoFault>
-        ensures found { IfOk opened (λ _. result ≡ Ok true) }
-        ensures open { IfOk opened (λ file. self.new ≡ record { is_open = true; rest = D.File.remaining file; faults = self.old.faults }) }
-        ensures missing { IfErr opened (λ error. error_kind error ≡ ErrorKind.NotFound → result ≡ Ok false) }
-        ensures none_open { IfErr opened (λ error. error_kind error ≡ ErrorKind.NotFound → self.new ≡ record { is_open = false; rest = None; faults = self.old.faults }) }
-        ensures failed { IfErr opened (λ error. error_kind error ≢ ErrorKind.NotFound → result ≡ Err IoFault.Failed) }
-        ensures counted { IfErr opened (λ error. error_kind error ≢ ErrorKind.NotFound → self.new ≡ record self.old { faults = counted self.old.faults }) }
+        ensures kept { IsKept D.File.remaining opened self.old self.new result }
         ensures faults { self.old.faults ≤ self.new.faults }
     {
         match opened {

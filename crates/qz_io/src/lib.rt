@@ -3,22 +3,22 @@
 #![tactic(auto)]
 
 mod copying;
-pub mod fault;
-pub mod folder_shelf;
-pub mod memory_shelf;
-pub mod memory_sink;
-pub mod memory_source;
-pub mod named;
-pub mod shelf;
-pub mod sink;
-pub mod source;
-pub mod standard_sink;
-pub mod standard_source;
+mod fault;
+mod folder_shelf;
+mod memory_shelf;
+mod memory_sink;
+mod memory_source;
+mod named;
+mod shelf;
+mod sink;
+mod source;
+mod standard_sink;
+mod standard_source;
 mod stops;
-pub mod sure_shelf;
-pub mod sure_sink;
-pub mod sure_source;
-pub mod transfers;
+mod sure_shelf;
+mod sure_sink;
+mod sure_source;
+mod transfers;
 
 pub use fault::IoFault;
 pub use folder_shelf::DirShelf;

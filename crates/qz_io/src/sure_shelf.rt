@@ -1,5 +1,5 @@
 //! A shelf in memory that never fails.
-ghost use Rattle.std.specs.Prelude.{◌≡◌, ◌≤◌, ◌<◌, ◌++◌, length, min, take, drop, true, is_some, IsTrue, IsNone, IfSome, IfOk, option_map, Some, None, Ok};
+ghost use Rattle.std.specs.Prelude.{◌≡◌, ◌≤◌, ◌<◌, ◌+◌, ◌^◌, ◌++◌, length, min, take, drop, true, is_some, IsTrue, IsNone, IfSome, IfOk, option_map, Some, None, Ok};
 ghost use Rattle.qz_io.specs.Files.{files_of};
 ghost use Rattle.qz_io.specs.SureSource.{at_beginning, after};
 ghost use Rattle.qz_io.specs.SureShelf.{rest_of, reading_of, bytes_at};
@@ -68,6 +68,17 @@ impl SureShelf {
         }
     }
 
+    // The bytes that are left of the open file; none where no file is open.
+    fn left(&self) -> &[u8]
+        ensures left { result.now ≡ (reading_of self.now.opened).left }
+        ensures few { (reading_of self.now.opened).done + length result.now < 2 ^ 64 }
+    {
+        match self.place {
+            Some(place) => self.files[place.file].bytes().split_at(place.done).1,
+            None => &[],
+        }
+    }
+
     // Puts the first bytes that are left of the open file at the front of the piece, at most so many, and answers how
     // many.
     pub(crate) fn take_into(&mut self, piece: &mut [u8], most: usize) -> usize
@@ -77,13 +88,10 @@ impl SureShelf {
         ensures filled { piece.new ≡ take result (reading_of self.old.opened).left ++ drop result piece.old }
         ensures taken { self.new ≡ record self.old { opened = Some (after result (reading_of self.old.opened)) } }
     {
-        let Some(place) = self.place else { return 0 };
-        let bytes = self.files[place.file].bytes();
-        let count = put_front(bytes.split_at(place.done).1, piece, most);
-        self.place = Some(Place {
-            file: place.file,
-            done: place.done + count,
-        });
+        let count = put_front(self.left(), piece, most);
+        if let Some(place) = &mut self.place {
+            place.done += count;
+        }
         count
     }
 }

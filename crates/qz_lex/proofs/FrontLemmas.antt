@@ -43,19 +43,20 @@ longest_of place what n z r most taken is = record {
   longest = λ other x rest begins fits. most (length x) (subst (λ y. Reaches y (length x) r) (sym begins) (rw is (rw begins (reaches place other x rest fits))));
 }
 
-all_right : (place : ℕ) (z : List ℕ) (r : Result Front LexFault) → IsFound place z r → r ≡ front place z → IsRight place z r
-all_right place z (Ok (Some kind, n)) found is = (longest_of place (Some kind) n z (Ok (Some kind, n)) (λ len h. h) found.0 is, found.1)
-all_right place z (Ok (None, n)) found is = longest_of place None n z (Ok (None, n)) (λ len h. h) found is
-all_right place z (Err (LongName p)) found is = (found.0, (prefix_len is_in_word z, longest_of place (Some Word) _ z (Err (LongName p)) (λ len h. h) found.1 is, found.2))
-all_right place z (Err (BigNumber p)) found is = (found.0, (digits z, found.1.0, longest_of place (Some (Whole found.1.0)) _ z (Err (BigNumber p)) (λ len h. h) found.1.1 is, found.1.2))
-all_right place z (Err (BadByte p)) found is = (
+all_right : (place : ℕ) (z : List ℕ) (r : Result Front LexFault) → 0 < length z → IsFound place z r → r ≡ front place z → IsRight place z r
+all_right place z (Ok (Some kind, n)) some found is = (longest_of place (Some kind) n z (Ok (Some kind, n)) (λ len h. h) found.0 is, found.1)
+all_right place z (Ok (None, n)) some found is = longest_of place None n z (Ok (None, n)) (λ len h. h) found is
+all_right place z (Err (LongName p)) some found is = (found.0, (prefix_len is_in_word z, longest_of place (Some Word) _ z (Err (LongName p)) (λ len h. h) found.1 is, found.2))
+all_right place z (Err (BigNumber p)) some found is = (found.0, (digits z, found.1.0, longest_of place (Some (Whole found.1.0)) _ z (Err (BigNumber p)) (λ len h. h) found.1.1 is, found.1.2))
+all_right place z (Err (BadByte p)) some found is = (
   found,
+  some,
   λ what x rest begins fits. (
       let there = subst (λ y. Reaches (x ++ rest) (length x) (front place y)) (sym begins) (reaches place what x rest fits) in
       let reached : Reaches (x ++ rest) (length x) (Err (BadByte p)) = subst (λ r. Reaches (x ++ rest) (length x) r) (sym is) there in
       reached),
 )
-all_right place z (Err Memory) found is = found
+all_right place z (Err Memory) some found is = found
 
 -- ---- choices
 
@@ -391,4 +392,4 @@ front_found place b z =
 
 pub front_right : (place : ℕ) (z : List ℕ) → 0 < length z → IsRight place z (front place z)
 front_right place [] some = absurd (omega arith)
-front_right place (b ∷ z) some = all_right place (b ∷ z) (front place (b ∷ z)) (front_found place b z) refl
+front_right place (b ∷ z) some = all_right place (b ∷ z) (front place (b ∷ z)) some (front_found place b z) refl

@@ -1,6 +1,6 @@
 pub mod LexLemmas
-pub mod ValueLemmas
-pub mod ChainLemmas
+mod ValueLemmas
+mod ChainLemmas
 pub mod LongestLemmas
-pub mod FrontLemmas
+mod FrontLemmas
 pub mod CutLemmas

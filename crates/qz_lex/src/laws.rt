@@ -12,7 +12,7 @@ pub fn the_longest_that_fits_is_taken()
 {}
 
 /// Tokens stand in order, each with its text, and nothing but gaps stands between them, from the first byte to the end; or
-/// up to the leftmost fault.
+/// up to the leftmost fault, which stands before the end.
 #[tactic(auto, using(crate::proofs::CutLemmas::tokens_in_order))]
 pub fn tokens_stand_in_order()
     ensures { (z : List ℕ) → IsCut z (tokens_of z) }

@@ -25,7 +25,7 @@ use Rattle.qz_paths.proofs.Congruence.{same_of, rule_gates, program_gates}
 -- ---- gates that make the same of all amounts
 
 -- gates of either kind, of which as many owe a factor 1/√2
-pub same_by_runs : {G : Type 0} (through : G → Ways) (as_one : G → Gate) (same : (g : G) → through g ≡ gate_ways (as_one g)) (is_half : G → Bool) (q : ℕ) (a b : List G) →
+same_by_runs : {G : Type 0} (through : G → Ways) (as_one : G → Gate) (same : (g : G) → through g ≡ gate_ways (as_one g)) (is_half : G → Bool) (q : ℕ) (a b : List G) →
     AreGates q (map as_one a) → AreGates q (map as_one b) → count_by is_half a ≡ count_by is_half b → ((v : Amounts) → run (map as_one a) v ≡ run (map as_one b) v) → IsSameUnitary through is_half q a b
 same_by_runs through as_one same is_half q a b ha hb halves runs = (
   zero_exponent,
@@ -93,7 +93,7 @@ program_target (ProgramCx c t) = rule_target (Cx c t)
 program_target (ProgramRz t k) = rule_target (H t)
 
 -- two gates of a rule without a common qubit are apart
-pub rules_apart : (f g : Op) → rule_shares f g ≡ false → Apart (as_gate f) (as_gate g)
+rules_apart : (f g : Op) → rule_shares f g ≡ false → Apart (as_gate f) (as_gate g)
 rules_apart f g none = apart_by (rule_qubits_of f) (rule_qubits_of g) (as_gate f) (as_gate g) none (rule_control f) (rule_target f) (rule_control g) (rule_target g)
 
 -- and so of a program

@@ -36,7 +36,7 @@ back_roots n gates back i j e =
 
 module _ (q : ℕ) (u : Exponent) (n m : ℕ) (a b : List Gate) where
   -- the same gates before both
-  pub alike_front : (front : List Gate) → AreGates q front → Alike q u n m a b → Alike q u n m (front ++ a) (front ++ b)
+  alike_front : (front : List Gate) → AreGates q front → Alike q u n m a b → Alike q u n m (front ++ a) (front ++ b)
   alike_front [] are alike i j hi hj e he = alike i j hi hj e he
   alike_front (g ∷ front) are alike i j hi hj e he =
       let rest = alike_front front are.1 alike in
@@ -45,7 +45,7 @@ module _ (q : ℕ) (u : Exponent) (n m : ℕ) (a b : List Gate) where
       sym (front_roots m q (front ++ b) g i j (minus e u) are.0)
 
   -- the same gates after both
-  pub alike_back : (back : List Gate) → AreGates q back → Alike q u n m a b → Alike q u n m (a ++ back) (b ++ back)
+  alike_back : (back : List Gate) → AreGates q back → Alike q u n m a b → Alike q u n m (a ++ back) (b ++ back)
   alike_back back are alike i j hi hj e he =
       back_roots n a back i j e ∙
       run_along (λ x. minus x u) (minus_goes_over u) q back (λ k. roots n (run a (start j) k)) (λ k. roots m (run b (start j) k)) are (λ k hk. alike k j hk hj) i hi e he ∙
@@ -67,7 +67,7 @@ alike_as q u n m k l a b c d first second third fourth alike i j hi hj e he =
 
 module _ {G : Type 0} (through : G → Ways) (as_one : G → Gate) (same : (g : G) → through g ≡ gate_ways (as_one g)) (is_half : G → Bool) (q : ℕ) where
   -- what ways through gates count, times a power of √2
-  pub count_rooted : (n : ℕ) (gates : List G) (i j : ℕ) (e : Exponent) → AreGates q (map as_one gates) → i < 2 ^ q → IsExponent e →
+  count_rooted : (n : ℕ) (gates : List G) (i j : ℕ) (e : Exponent) → AreGates q (map as_one gates) → i < 2 ^ q → IsExponent e →
       count (root2 n (ways_along through q gates i j)) e ≡ roots n (run (map as_one gates) (start j) i) e
   count_rooted n gates i j e are hi he =
       count_roots n (ways_along through q gates i j) e (proper_along through q gates i j) he ∙
@@ -101,7 +101,7 @@ module _ {G : Type 0} (through : G → Ways) (as_one : G → Gate) (same : (g : 
   are_around front a back hf ha hb = each-append (IsGate q) (map as_one front ++ map as_one a) (map as_one back) (each-append (IsGate q) (map as_one front) (map as_one a) hf ha) hb
 
   -- with the same gates before them and after them
-  pub congruent : (front back a b : List G) → AreGates q (map as_one front) → AreGates q (map as_one back) → AreGates q (map as_one a) → AreGates q (map as_one b) →
+  congruent : (front back a b : List G) → AreGates q (map as_one front) → AreGates q (map as_one back) → AreGates q (map as_one a) → AreGates q (map as_one b) →
       IsSameUnitary through is_half q a b → IsSameUnitary through is_half q (front ++ a ++ back) (front ++ b ++ back)
   congruent front back a b hf hk ha hb (u, h) =
       let more = count_by is_half front + count_by is_half back in

@@ -13,14 +13,14 @@ use Rattle.qz_circ.proofs.Roots.{through_middle}
 -- ---- ways
 
 -- ways are the same up to 1 as themselves
-pub same_up_to_one : (q : ℕ) (x : Ways) → SameUpTo q zero_exponent x x
+same_up_to_one : (q : ℕ) (x : Ways) → SameUpTo q zero_exponent x x
 same_up_to_one q x = record {
   phase = omega arith;
   counts = λ i j e hi hj he. ap (count (x i j)) (sym (minus-zero e he));
 }
 
 -- the phase is undone by its inverse
-pub same_up_to_inverse : (q : ℕ) (u : Exponent) (x y : Ways) → SameUpTo q u x y → SameUpTo q (minus zero_exponent u) y x
+same_up_to_inverse : (q : ℕ) (u : Exponent) (x y : Ways) → SameUpTo q u x y → SameUpTo q (minus zero_exponent u) y x
 same_up_to_inverse q u x y h = record {
   phase = minus_proper zero_exponent u;
   counts = λ i j e hi hj he.
@@ -37,7 +37,7 @@ abbrev pub AreProperWays : Ways → Type 0
 AreProperWays x = (i j : ℕ) → AreProper (x i j)
 
 -- through ways in the middle, the phases add up and the roots of the middle cancel
-pub same_up_to_both : (q ha hb hc : ℕ) (u v : Exponent) (x y z : Ways) → AreProperWays x → AreProperWays y → AreProperWays z →
+same_up_to_both : (q ha hb hc : ℕ) (u v : Exponent) (x y z : Ways) → AreProperWays x → AreProperWays y → AreProperWays z →
     SameUpTo q u (scaled hb x) (scaled ha y) → SameUpTo q v (scaled hc y) (scaled hb z) → SameUpTo q (plus u v) (scaled hc x) (scaled ha z)
 same_up_to_both q ha hb hc u v x y z px py pz first second = record {
   phase = omega arith;
@@ -54,7 +54,7 @@ module _ {G : Type 0} (through : G → Ways) (is_half : G → Bool) (q : ℕ) wh
   IsSameUnitary a b = (u : Exponent) × SameUpTo q u (scaled (count_by is_half b) (ways_along through q a)) (scaled (count_by is_half a) (ways_along through q b))
 
   -- gates are the same unitary as themselves
-  pub same_itself : (a : List G) → IsSameUnitary a a
+  same_itself : (a : List G) → IsSameUnitary a a
   same_itself a = (zero_exponent, same_up_to_one q (scaled (count_by is_half a) (ways_along through q a)))
 
   -- in either order
@@ -62,7 +62,7 @@ module _ {G : Type 0} (through : G → Ways) (is_half : G → Bool) (q : ℕ) wh
   same_back a b (u, h) = (minus zero_exponent u, same_up_to_inverse q u (scaled (count_by is_half b) (ways_along through q a)) (scaled (count_by is_half a) (ways_along through q b)) h)
 
   -- and over gates in the middle
-  pub same_through : (a b c : List G) → IsSameUnitary a b → IsSameUnitary b c → IsSameUnitary a c
+  same_through : (a b c : List G) → IsSameUnitary a b → IsSameUnitary b c → IsSameUnitary a c
   same_through a b c (u, first) (v, second) =
       (plus u v, same_up_to_both q (count_by is_half a) (count_by is_half b) (count_by is_half c) u v (ways_along through q a) (ways_along through q b) (ways_along through q c) (proper_along through q a) (proper_along through q b) (proper_along through q c) first second)
 

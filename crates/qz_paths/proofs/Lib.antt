@@ -6,7 +6,7 @@ pub mod Congruence
 pub mod Commuting
 pub mod Parts
 pub mod Least
-pub mod Chains
+mod Chains
 pub mod ClassesFound
 pub mod Completeness
 pub mod OneQubit

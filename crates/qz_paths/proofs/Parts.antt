@@ -19,36 +19,36 @@ use Rattle.qz_paths.proofs.Congruence.{congruent_circuits}
 -- ---- within limits
 
 -- what holds of each element of two lists end to end holds of those of the first
-pub each-front : {A : Type 0} (P : A → Type 0) (xs ys : List A) → AllByRecursion P (xs ++ ys) → AllByRecursion P xs
+each-front : {A : Type 0} (P : A → Type 0) (xs ys : List A) → AllByRecursion P (xs ++ ys) → AllByRecursion P xs
 each-front P [] ys h = tt
 each-front P (x ∷ xs) ys h = (h.0, each-front P xs ys h.1)
 
 -- and of the second
-pub each-back : {A : Type 0} (P : A → Type 0) (xs ys : List A) → AllByRecursion P (xs ++ ys) → AllByRecursion P ys
+each-back : {A : Type 0} (P : A → Type 0) (xs ys : List A) → AllByRecursion P (xs ++ ys) → AllByRecursion P ys
 each-back P [] ys h = h
 each-back P (x ∷ xs) ys h = each-back P xs ys h.1
 
 -- how long three parts are
-pub length_around : {A : Type 0} (front part back : List A) → length (front ++ part ++ back) ≡ length front + length part + length back
+length_around : {A : Type 0} (front part back : List A) → length (front ++ part ++ back) ≡ length front + length part + length back
 length_around front part back = omega (arith, length-append (front ++ part) back, length-append front part)
 
 module _ (b : Limits) (front part back : Circuit) (whole : Within b (front ++ part ++ back)) where
   -- the gates before a part are within the limits
-  pub within-front : Within b front
+  within-front : Within b front
   within-front = record {
     short = omega (arith, length_around front part back, whole.short);
     gates = each-front _ front part (each-front _ (front ++ part) back whole.gates);
   }
 
   -- and the part
-  pub within-part : Within b part
+  within-part : Within b part
   within-part = record {
     short = omega (arith, length_around front part back, whole.short);
     gates = each-back _ front part (each-front _ (front ++ part) back whole.gates);
   }
 
   -- and the gates after it
-  pub within-back : Within b back
+  within-back : Within b back
   within-back = record {
     short = omega (arith, length_around front part back, whole.short);
     gates = each-back _ (front ++ part) back whole.gates;
@@ -62,7 +62,7 @@ module _ (b : Limits) (front part back : Circuit) (whole : Within b (front ++ pa
   }
 
 -- gates within limits act on their qubits
-pub acts_within : (b : Limits) (c : Circuit) → Within b c → AllByRecursion (ActsBelow b.q) c
+acts_within : (b : Limits) (c : Circuit) → Within b c → AllByRecursion (ActsBelow b.q) c
 acts_within b c within = each_weaker (Contains (gates_of b)) (ActsBelow b.q) (λ g has. (gate_below b g has).0) c within.gates
 
 -- ---- the order

@@ -59,7 +59,7 @@ minus_goes_over u e v = minus-swap e v u
 
 module _ (s : Exponent → Exponent) (over : GoesOver s) where
   -- what a gate makes of amounts
-  pub act_along : (kind : Kind) (b c : Bool) (x y z w : Amount) → Along s x z → Along s y w → Along s (act kind b c x y) (act kind b c z w)
+  act_along : (kind : Kind) (b c : Bool) (x y z w : Amount) → Along s x z → Along s y w → Along s (act kind b c x y) (act kind b c z w)
   act_along mix b c x y z w first second e he = λ d. signed c (first e he d) +ℤ second e he d
   act_along flip b c x y z w first second e he = second e he
   act_along flip_where true c x y z w first second e he = second e he
@@ -79,7 +79,7 @@ module _ (s : Exponent → Exponent) (over : GoesOver s) where
   run_along q (g ∷ gates) v w are along = run_along q gates (step g v) (step g w) are.1 (step_along q g v w are.0.within along)
 
   -- times √2
-  pub root_along : (x y : Amount) → Along s x y → Along s (root x) (root y)
+  root_along : (x y : Amount) → Along s x y → Along s (root x) (root y)
   root_along x y along e he =
       let low = along (minus e (turn_of 64)) (minus_proper e (turn_of 64)) ∙ ap y (over e (turn_of 64)) in
       let high = along (minus e (turn_of 192)) (minus_proper e (turn_of 192)) ∙ ap y (over e (turn_of 192)) in
@@ -100,7 +100,7 @@ roots-add (suc h) k x =
     ap (λ n. roots n x) more ∙ ap root (roots-add h k x)
 
 -- before a gate or after it
-pub act_root : (kind : Kind) (b c : Bool) (x y : Amount) (e : Exponent) → act kind b c (root x) (root y) e ≡ root (act kind b c x y) e
+act_root : (kind : Kind) (b c : Bool) (x y : Amount) (e : Exponent) → act kind b c (root x) (root y) e ≡ root (act kind b c x y) e
 act_root mix b true x y e = omega (arith, ints)
 act_root mix b false x y e = omega (arith, ints)
 act_root flip b c x y e = refl
@@ -110,7 +110,7 @@ act_root (turn u) b true x y e = λ d. x (minus-swap e u (turn_of 64) d) -ℤ x 
 act_root (turn u) b false x y e = refl
 
 -- a power of it, before a gate or after it
-pub act_roots : (h : ℕ) (kind : Kind) (b c : Bool) (x y : Amount) (e : Exponent) → act kind b c (roots h x) (roots h y) e ≡ roots h (act kind b c x y) e
+act_roots : (h : ℕ) (kind : Kind) (b c : Bool) (x y : Amount) (e : Exponent) → act kind b c (roots h x) (roots h y) e ≡ roots h (act kind b c x y) e
 act_roots zero kind b c x y e = refl
 act_roots (suc h) kind b c x y e = act_root kind b c (roots h x) (roots h y) e ∙ ap (λ (z : Amount). root z e) (λ d f. act_roots h kind b c x y f d)
 
@@ -126,7 +126,7 @@ run_roots h (g ∷ gates) v i e = ap (λ (w : Amounts). run gates w i e) (λ d k
 -- ---- a gate in front
 
 -- amounts for each two states: a gate on the first state, before gates on the second or after them
-pub run_columns : (gates : List Gate) (g : Gate) (m : ℕ → Amounts) (i j : ℕ) (e : Exponent) → run gates (λ k. step g (m k) j) i e ≡ step g (λ l. run gates (λ k. m k l) i) j e
+run_columns : (gates : List Gate) (g : Gate) (m : ℕ → Amounts) (i j : ℕ) (e : Exponent) → run gates (λ k. step g (m k) j) i e ≡ step g (λ l. run gates (λ k. m k l) i) j e
 run_columns [] g m i j e = refl
 run_columns (f ∷ gates) g m i j e =
     ap (λ (w : Amounts). run gates w i e) (λ d k x. swapped k x d) ∙
@@ -159,7 +159,7 @@ by_bit t i j f none = by (cases_eq i j)
     by (inr apart) = none apart (has_bit t i) ∙ sym (none apart (has_bit t j))
 
 -- a gate on the amounts of one state alone is the gate on the states that are alone
-pub step_start : (q : ℕ) (g : Gate) (i j : ℕ) (e : Exponent) → IsGate q g → step g (start j) i e ≡ step g (λ l. start l i) j e
+step_start : (q : ℕ) (g : Gate) (i j : ℕ) (e : Exponent) → IsGate q g → step g (start j) i e ≡ step g (λ l. start l i) j e
 step_start q g i j e is = of g.kind is.right
   where
     across : (x : Exponent) → start j (flipped_state g.target i) x ≡ start (flipped_state g.target j) i x

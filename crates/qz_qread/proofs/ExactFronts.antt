@@ -17,7 +17,7 @@ use Rattle.qz_circ.specs.TokenTexts.{AreDigits, IsExponent, Spells, AreBlanks, I
 use Rattle.qz_lex.proofs.LongestLemmas.{run_exact, decimal_point, decimal_plain, is_e, is_sign, is_no_sign, front_number, first_digit, first_of_digits, exponent_first, exponent_follows, regrouped, front_word}
 
 -- a byte with which a number could go on
-abbrev pub is_in_number : ℕ → Bool
+abbrev is_in_number : ℕ → Bool
 is_in_number b = is_ascii_digit b || b == 46 || b == 101 || b == 69
 
 -- a byte with which a token of this kind, or a gap, could go on

@@ -1,27 +1,27 @@
 mod Repetitions
 mod Steps
-pub mod Pieces
-pub mod Readings
-pub mod SpelledLexemes
-pub mod ReadForms
-pub mod ReadDeclarations
-pub mod ReadGates
+mod Pieces
+mod Readings
+mod SpelledLexemes
+mod ReadForms
+mod ReadDeclarations
+mod ReadGates
 pub mod ValidReadings
-pub mod PieceTexts
-pub mod ExactFronts
-pub mod SoundPieces
-pub mod SoundOperands
-pub mod SoundPrograms
-pub mod Statements
-pub mod EnclosedTokens
-pub mod MoreOperands
-pub mod AnglePieces
-pub mod LinesRead
-pub mod OperandPieces
-pub mod QubitPieces
-pub mod GateLines
-pub mod RegisterLines
-pub mod TailLines
-pub mod ProgramBack
+mod PieceTexts
+mod ExactFronts
+mod SoundPieces
+mod SoundOperands
+mod SoundPrograms
+mod Statements
+mod EnclosedTokens
+mod MoreOperands
+mod AnglePieces
+mod LinesRead
+mod OperandPieces
+mod QubitPieces
+mod GateLines
+mod RegisterLines
+mod TailLines
+mod ProgramBack
 pub mod RoundTrip
-pub mod StatementSteps
+mod StatementSteps

@@ -41,7 +41,7 @@ same_names : (registers : List RegisterParts) (i : ℕ) (d : RegisterParts) → 
 same_names registers i d within = (bytes_eq-Decides _ _).1 (sym (name_at registers i d within))
 
 -- the first register with the name of a register is that register
-pub named_place : (registers : List RegisterParts) (i : ℕ) → HaveNames registers → i < length registers → position (λ r. bytes_eq r.name (text_at (names_of registers) i)) registers ≡ Some i
+named_place : (registers : List RegisterParts) (i : ℕ) → HaveNames registers → i < length registers → position (λ r. bytes_eq r.name (text_at (names_of registers) i)) registers ≡ Some i
 named_place registers i differ within =
     let d : RegisterParts = record { name = []; size = 0 } in
     let first : position_or_len (λ r. bytes_eq r.name (text_at (names_of registers) i)) registers ≡ i = position_or_len_is (λ r. bytes_eq r.name (text_at (names_of registers) i)) registers i d (omega arith) (λ k before. other_names registers k i d differ before within) (λ _. same_names registers i d within) in

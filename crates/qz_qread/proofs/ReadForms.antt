@@ -15,7 +15,7 @@ use Rattle.qz_qread.specs.Spelled.{IsSpelled, AreSpelled}
 -- ---- single tokens
 
 -- the first token passes the test, and the others are left
-pub one_read : (accepts : Lexeme → Bool) (len : ℕ) (ls : List Lexeme) → Reads (λ x. (accepts x.0 ≡ true) × (ls ≡ x.0 ∷ x.1)) (one accepts len ls)
+one_read : (accepts : Lexeme → Bool) (len : ℕ) (ls : List Lexeme) → Reads (λ x. (accepts x.0 ≡ true) × (ls ≡ x.0 ∷ x.1)) (one accepts len ls)
 unfolding one
 one_read accepts len [] = misfits len []
 one_read accepts len (l ∷ ls) = choice (accepts l) (λ h. done (h, refl)) (λ _. misfits len (l ∷ ls))

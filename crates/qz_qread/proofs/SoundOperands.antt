@@ -70,7 +70,7 @@ unfolding reserved_words
 pi_is_reserved = (0, omega arith, refl)
 
 -- the name of a register is a word
-pub name_fits : (name : List ℕ) → IsRegisterName name → Fits (Some Word) name
+name_fits : (name : List ℕ) → IsRegisterName name → Fits (Some Word) name
 name_fits name h = ((spelled_word name h.spelled, λ e. h.free (rw e pi_is_reserved)), h.short)
 
 -- ---- whole numbers
@@ -83,7 +83,7 @@ all_digits [] h = refl
 all_digits (b ∷ x) h = let here = digit_at (b ∷ x) 0 h (omega arith) in rw (digit_by_range b here.0 here.1) (all_digits x h.1)
 
 -- a number below 10,000 is whole, with at most eighteen digits
-pub whole_fits : (n : ℕ) → n < 10000 → Fits (Some (Whole n)) (decimal n)
+whole_fits : (n : ℕ) → n < 10000 → Fits (Some (Whole n)) (decimal n)
 whole_fits n small =
     let wide : n < 2 ^ 64 = omega arith in
     let numeral = decimal_is_IsNumeral n wide in

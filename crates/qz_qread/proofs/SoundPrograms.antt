@@ -183,7 +183,7 @@ names_of_both [] second h = (tt, h)
 names_of_both (r ∷ first) second h = let others = names_of_both first second h.1 in ((h.0, others.0), others.1)
 
 -- the pieces of a valid program are sound
-pub sound_program : (p : ProgramParts) → Valid p → AreSound (program_pieces p)
+sound_program : (p : ProgramParts) → Valid p → AreSound (program_pieces p)
 unfolding program_pieces
 sound_program p valid =
     let names = names_of_both p.qregs p.cregs valid.names in

@@ -18,7 +18,7 @@ use Rattle.qz_qread.specs.Views.{operand, operands}
 abbrev pub with_found : {A : Type 0} → List A → Result (List A) QasmFault → Result (List A) QasmFault
 with_found found others = others >>= (λ more. Ok (found ++ more))
 
-pub with_found-nil : {A : Type 0} (others : Result (List A) QasmFault) → with_found [] others ≡ others
+with_found-nil : {A : Type 0} (others : Result (List A) QasmFault) → with_found [] others ≡ others
 with_found-nil (Ok more) = refl
 with_found-nil (Err e) = refl
 

@@ -7,7 +7,7 @@ use itoa::Buffer;
 use std::alloc::AllocError;
 
 // Appends a number.
-pub fn push_number(out: &mut Vec<u8>, n: u16) -> Result<(), AllocError>
+pub(crate) fn push_number(out: &mut Vec<u8>, n: u16) -> Result<(), AllocError>
     ensures { OnOk result (out.new.items ≡ out.old.items ++ decimal n) }
 {
     let mut buffer = Buffer::new();
@@ -60,7 +60,7 @@ fn push_part(out: &mut Vec<u8>, m: u16) -> Result<(), AllocError>
 
 // Appends the angle with this number.
 #[tactic(auto, unfolding(qz_circ::specs::ProgramText::angle_text))]
-pub fn push_angle(out: &mut Vec<u8>, k: u16) -> Result<(), AllocError>
+pub(crate) fn push_angle(out: &mut Vec<u8>, k: u16) -> Result<(), AllocError>
     requires { k < 512 }
     ensures { OnOk result (out.new.items ≡ out.old.items ++ angle_text k) }
 {

@@ -23,7 +23,7 @@ fn push_register(out: &mut Vec<u8>, word: &[u8], r: &Register) -> Result<(), All
 }
 
 // Appends the declarations of registers by a word.
-pub fn push_registers(
+pub(crate) fn push_registers(
     out: &mut Vec<u8>,
     word: &[u8],
     registers: &[Register],
@@ -78,7 +78,11 @@ fn push_gate(out: &mut Vec<u8>, qubits: &QubitTexts, g: Inst) -> Result<(), Allo
 }
 
 // Appends the lines of gates.
-pub fn push_gates(out: &mut Vec<u8>, qubits: &QubitTexts, gates: &[Inst]) -> Result<(), AllocError>
+pub(crate) fn push_gates(
+    out: &mut Vec<u8>,
+    qubits: &QubitTexts,
+    gates: &[Inst],
+) -> Result<(), AllocError>
     requires { AllByRecursion (IsProgramGate (length qubits.now)) gates.now }
     ensures { OnOk result (out.new.items ≡ out.old.items ++ flat_map (gate_line qubits.now) gates.now) }
 {
@@ -134,7 +138,7 @@ fn push_statement(
 }
 
 // Appends the lines of barriers and measurements.
-pub fn push_tail(
+pub(crate) fn push_tail(
     out: &mut Vec<u8>,
     qregs: &[Register],
     cregs: &[Register],

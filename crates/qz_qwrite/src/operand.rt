@@ -10,7 +10,7 @@ use std::alloc::AllocError;
 
 // Appends a name and a number in brackets.
 #[tactic(auto, unfolding(qz_circ::specs::ProgramText::indexed_text))]
-pub fn push_indexed(out: &mut Vec<u8>, name: &[u8], n: u16) -> Result<(), AllocError>
+pub(crate) fn push_indexed(out: &mut Vec<u8>, name: &[u8], n: u16) -> Result<(), AllocError>
     ensures { OnOk result (out.new.items ≡ out.old.items ++ indexed_text name.now n) }
 {
     out.extend_from_slice(name)?;
@@ -22,7 +22,11 @@ pub fn push_indexed(out: &mut Vec<u8>, name: &[u8], n: u16) -> Result<(), AllocE
 
 // Appends an operand.
 #[tactic(auto, unfolding(qz_circ::specs::ProgramText::operand_text))]
-pub fn push_operand(out: &mut Vec<u8>, registers: &[Register], a: Arg) -> Result<(), AllocError>
+pub(crate) fn push_operand(
+    out: &mut Vec<u8>,
+    registers: &[Register],
+    a: Arg,
+) -> Result<(), AllocError>
     requires { a.register < length registers.now }
     ensures { OnOk result (out.new.items ≡ out.old.items ++ operand_text registers.now a) }
 {
@@ -34,7 +38,7 @@ pub fn push_operand(out: &mut Vec<u8>, registers: &[Register], a: Arg) -> Result
 }
 
 // Appends operands with commas between them.
-pub fn push_operands(
+pub(crate) fn push_operands(
     out: &mut Vec<u8>,
     registers: &[Register],
     args: &[Arg],

@@ -10,22 +10,23 @@ use std::marker::Model;
 
 /// The text of each qubit, in the order of the numbers.
 #[derive(Drop)]
-pub struct QubitTexts {
+pub(crate) struct QubitTexts {
     alloc: Global,
     texts: Vec<Vec<u8>>,
 }
 
 impl Model for QubitTexts {
-    ghost use Rattle.std.specs.Prelude.{ℕ, List, map};
+    ghost use Rattle.std.specs.Prelude.{ℕ, List};
+    ghost use Rattle.qz_circ.specs.Vectors.{lists_of};
 
     ghost Value = { List (List ℕ) };
 
-    ghost view = { λ q. map (λ text. text.items) q.texts.items };
+    ghost view = { λ q. lists_of q.texts.items };
 }
 
 impl QubitTexts {
     /// The text of this qubit.
-    pub fn at(&self, t: u8) -> &[u8]
+    pub(crate) fn at(&self, t: u8) -> &[u8]
         requires { t < length self.now }
         ensures { result.now ≡ text_at self.now t }
     {
@@ -55,7 +56,7 @@ impl QubitTexts {
 
 /// The texts of the qubits of these registers.
 #[tactic(auto, unfolding(qz_circ::specs::ProgramText::qubit_texts))]
-pub fn qubit_texts(alloc: Global, registers: &[Register]) -> Result<QubitTexts, AllocError>
+pub(crate) fn qubit_texts(alloc: Global, registers: &[Register]) -> Result<QubitTexts, AllocError>
     ensures { IfOk result (λ texts. texts ≡ qubit_texts registers.now) }
 {
     let mut texts = QubitTexts {

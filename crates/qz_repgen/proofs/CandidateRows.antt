@@ -29,11 +29,11 @@ module _ (b : Limits) (lawful : IsLawful b) (parts : List ℕ) where
   candidate_listed r c = subst (λ x. x < length (all_circuits b)) c.ranked (rank_listed b lawful c.circuit c.within)
 
   -- the ranks of the row of a listed circuit are ranks
-  pub row_below : AreOfOneLength b parts → (s : ℕ) → Contains parts s → s * gate_count b + gate_count b < length (all_circuits b)
+  row_below : AreOfOneLength b parts → (s : ℕ) → Contains parts s → s * gate_count b + gate_count b < length (all_circuits b)
   row_below one s has = row_listed b lawful s (one.listed s has) (one.short s has)
 
   -- a candidate is in the row of its part without the last gate
-  pub candidate_in_row : (r : ℕ) → IsCandidate b parts r → (s : ℕ) × Contains parts s × IsInRow b s r
+  candidate_in_row : (r : ℕ) → IsCandidate b parts r → (s : ℕ) × Contains parts s × IsInRow b s r
   candidate_in_row r c =
       let some : 0 < r = some_rank b lawful r (omega (arith, ap length (candidate_circuit r c), c.some)) in
       let listed = candidate_listed r c in
@@ -63,7 +63,7 @@ module _ (b : Limits) (lawful : IsLawful b) (parts : List ℕ) where
     first_part some = omega (arith, first_rank b lawful s d r place digit listed some, in_row.0)
 
     -- where both parts are listed, it is a candidate
-    pub candidate_from_parts : Contains parts s → ((0 < s) → Contains parts (rank b (without_first (circuit_at b s)) * gate_count b + (r - s * gate_count b))) → IsCandidate b parts r
+    candidate_from_parts : Contains parts s → ((0 < s) → Contains parts (rank b (without_first (circuit_at b s)) * gate_count b + (r - s * gate_count b))) → IsCandidate b parts r
     candidate_from_parts has_last has_first = record {
       circuit = circuit_at b r;
       within = circuit_at-within b r listed;
@@ -79,7 +79,7 @@ module _ (b : Limits) (lawful : IsLawful b) (parts : List ℕ) where
     }
 
     -- a candidate has its parts listed
-    pub parts_of_candidate : IsCandidate b parts r → Contains parts s × ((0 < s) → Contains parts (rank b (without_first (circuit_at b s)) * gate_count b + (r - s * gate_count b)))
+    parts_of_candidate : IsCandidate b parts r → Contains parts s × ((0 < s) → Contains parts (rank b (without_first (circuit_at b s)) * gate_count b + (r - s * gate_count b)))
     parts_of_candidate c =
         let here = sym (candidate_circuit r c) in (
           subst (Contains parts) (ap (λ x. rank b (without_last x)) here ∙ last_rank b lawful s d r place digit listed) c.last,
@@ -172,7 +172,7 @@ pub record RowsFound (b : Limits) (parts done found : List ℕ) : Type 0 where
   pub all : (s r : ℕ) → Contains done s → IsInRow b s r → IsCandidate b parts r → Contains found r
 
 -- of no row there are none
-pub rows_none : (b : Limits) (parts : List ℕ) → RowsFound b parts [] []
+rows_none : (b : Limits) (parts : List ℕ) → RowsFound b parts [] []
 rows_none b parts = record {
   rising = λ i j d before inside. absurd (omega arith);
   each = λ r has. absurd (omega (arith, has.1));

@@ -26,7 +26,7 @@ module _ (b : Limits) (journal : List ℕ) (classes : List (List ℕ)) (are : Ar
   by_relation = are
 
   -- its members are entries
-  pub member_is_entry : (r : ℕ) → Contains class r → Contains journal r
+  member_is_entry : (r : ℕ) → Contains class r → Contains journal r
   member_is_entry r has =
       partition.member_entry Same (λ r. reflexive b.q (circuit_at b r)) (λ r s. symmetric b.q (circuit_at b r) (circuit_at b s)) (λ r s t. transitive b.q (circuit_at b r) (circuit_at b s) (circuit_at b t)) journal classes by_relation i r inside has
 

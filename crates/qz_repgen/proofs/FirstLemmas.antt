@@ -74,7 +74,7 @@ module _ (b : Limits) (lawful : IsLawful b) (seed k : ℕ) (journals : List (Lis
         Contains-flat_map (firsts_of_length b k) all source.0 r source.1 (Contains-filter has_length (map first_of source.0) r has ((Decides-eqb (length (circuit_at b r)) k).1 h.long)),
   )
 
-  pub firsts_exactly : (found : List ℕ) → IsPermutation (flat_map (firsts_of_length b k) all) found → IsNonDecreasing found → ListsExactly (IsRepresentativeOf b k) found
+  firsts_exactly : (found : List ℕ) → IsPermutation (flat_map (firsts_of_length b k) all) found → IsNonDecreasing found → ListsExactly (IsRepresentativeOf b k) found
   firsts_exactly found moved order = record {
     rising = increasing_from_rises found (rises_of_different found order (different_permuted (flat_map (firsts_of_length b k) all) found moved firsts_different));
     exactly = λ r. (

@@ -99,7 +99,7 @@ module _ (b : Limits) (lawful : IsLawful b) (seed k : ℕ) (journals : List (Lis
     lists : ListsExactly (λ s. Contains (journal h.j) s × Same (get_or (journal h.j) (get_or (classes_are h.j h.within).earliest h.i 0) 0) s) list
     lists = subst (ListsExactly (λ s. Contains (journal h.j) s × Same (get_or (journal h.j) (get_or (classes_are h.j h.within).earliest h.i 0) 0) s)) h.is (partition.class_lists Same same_self same_back same_on (journal h.j) (classes h.j) (classes_are h.j h.within) h.i h.inside)
 
-    pub class_rises : Rises list
+    class_rises : Rises list
     class_rises = AllPairs-from_increasing list lists.rising
 
     -- it has a first member
@@ -113,22 +113,22 @@ module _ (b : Limits) (lawful : IsLawful b) (seed k : ℕ) (journals : List (Lis
     has_first = Contains-get_or list 0 0 some_member
 
     -- which is the least
-    pub first_least : (s : ℕ) → Contains list s → first_of list ≤ s
+    first_least : (s : ℕ) → Contains list s → first_of list ≤ s
     first_least s (zero, inside, is) = omega (arith, is, get_or_default list 0 0 s inside)
     first_least s (suc m, inside, is) = omega (arith, is, class_rises 0 (suc m) s (omega arith) inside, get_or_default list 0 0 s (omega arith))
 
     -- members are kept circuits, in their home
-    pub member_is_kept : (s : ℕ) → Contains list s → IsKeptUpTo b k s × (home_of b seed s ≡ h.j)
+    member_is_kept : (s : ℕ) → Contains list s → IsKeptUpTo b k s × (home_of b seed s ≡ h.j)
     member_is_kept s has = (hold.exactly h.j s h.within).0 ((lists.exactly s).0 has).0
 
     -- they are equivalent
-    pub members_same : (s t : ℕ) → Contains list s → Contains list t → Same s t
+    members_same : (s t : ℕ) → Contains list s → Contains list t → Same s t
     members_same s t has_s has_t =
         let e = get_or (journal h.j) (get_or (classes_are h.j h.within).earliest h.i 0) 0 in
         same_on s e t (same_back e s ((lists.exactly s).0 has_s).1) ((lists.exactly t).0 has_t).1
 
     -- and all kept circuits that are equivalent to a member are members
-    pub same_is_member : (s t : ℕ) → Contains list s → IsKeptUpTo b k t → Same s t → Contains list t
+    same_is_member : (s t : ℕ) → Contains list s → IsKeptUpTo b k t → Same s t → Contains list t
     same_is_member s t has kept same =
         let e = get_or (journal h.j) (get_or (classes_are h.j h.within).earliest h.i 0) 0 in
         let home = sym (same_home s t same) ∙ (member_is_kept s has).1 in
@@ -143,14 +143,14 @@ module _ (b : Limits) (lawful : IsLawful b) (seed k : ℕ) (journals : List (Lis
       (get_or (classes j) found.0 [], record { j = j; i = found.0; within = within; inside = found.1; is = refl }, found.2)
 
   -- two classes with equivalent members are one
-  pub one_class : (list other : List ℕ) → IsClassAt list → IsClassAt other → (s t : ℕ) → Contains list s → Contains other t → Same s t → list ≡ other
+  one_class : (list other : List ℕ) → IsClassAt list → IsClassAt other → (s t : ℕ) → Contains list s → Contains other t → Same s t → list ≡ other
   one_class list other h g s t has_s has_t same =
       rising_lists_same list other (class_rises list h) (class_rises other g)
       (λ r has. same_is_member other g t r has_t (member_is_kept list h r has).0 (same_on t s r (same_back s t same) (members_same list h s r has_s has)))
       (λ r has. same_is_member list h s r has_s (member_is_kept other g r has).0 (same_on s t r same (members_same other g t r has_t has)))
 
   -- two classes with one first member are one
-  pub one_first : (list other : List ℕ) → IsClassAt list → IsClassAt other → first_of list ≡ first_of other → list ≡ other
+  one_first : (list other : List ℕ) → IsClassAt list → IsClassAt other → first_of list ≡ first_of other → list ≡ other
   one_first list other h g same =
       one_class list other h g (first_of list) (first_of other) (has_first list h) (has_first other g)
       (subst (Same (first_of list)) same (same_self (first_of list)))
@@ -255,7 +255,7 @@ zip_map P f [] each = tt
 zip_map P f (x ∷ xs) each = (each x (contains_first x xs), zip_map P f xs (λ y has. each y (contains_rest x xs y has)))
 
 -- a list in order by a number, with different ones, rises by it
-pub rises_by : {A : Type 0} (number : A → ℕ) (xs : List A) → IsNonDecreasingBy number xs → AllPairs (λ r t. r ≢ t) (map number xs) → AllPairs (λ x y. number x < number y) xs
+rises_by : {A : Type 0} (number : A → ℕ) (xs : List A) → IsNonDecreasingBy number xs → AllPairs (λ r t. r ≢ t) (map number xs) → AllPairs (λ x y. number x < number y) xs
 rises_by number xs order different i j d before inside =
     let size = length-map xs number in
     let apart = different i j 0 before (omega arith) in

@@ -1,17 +1,17 @@
-pub mod RankLaws
-pub mod LowerLaws
-pub mod RisingRuns
-pub mod SortedLists
-pub mod JournalClasses
-pub mod LastGates
+mod RankLaws
+mod LowerLaws
+mod RisingRuns
+mod SortedLists
+mod JournalClasses
+mod LastGates
 pub mod ShardLemmas
-pub mod ClassMembers
-pub mod FirstLemmas
-pub mod ListingLemmas
+mod ClassMembers
+mod FirstLemmas
+mod ListingLemmas
 pub mod RoundLemmas
-pub mod CountLemmas
-pub mod RankRows
-pub mod CandidateRows
+mod CountLemmas
+mod RankRows
+mod CandidateRows
 pub mod RoundSteps
-pub mod FirstRanks
+mod FirstRanks
 pub mod ReportLaws

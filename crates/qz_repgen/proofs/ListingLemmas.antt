@@ -23,13 +23,13 @@ use Rattle.qz_repgen.proofs.ShardLemmas.{journal_of_shard}
 use Rattle.qz_repgen.proofs.SortedLists.{all_by_contains}
 
 -- the journals of the shards up to one more
-pub journals_more : (shards : List ShardParts) (i : ℕ) (s : ShardParts) → i < length shards → s ≡ get_or shards i s → journals_of (take (i + 1) shards) ≡ journals_of (take i shards) ++ s.journal ∷ []
+journals_more : (shards : List ShardParts) (i : ℕ) (s : ShardParts) → i < length shards → s ≡ get_or shards i s → journals_of (take (i + 1) shards) ≡ journals_of (take i shards) ++ s.journal ∷ []
 journals_more shards i s inside is =
     ap journals_of (take_more shards i s inside) ∙ map-append (λ (x : ShardParts). x.journal) (take i shards) (get_or shards i s ∷ []) ∙
     ap (λ (x : ShardParts). journals_of (take i shards) ++ x.journal ∷ []) (sym is)
 
 -- what a function gives of a list with one element more
-pub flat_map-push : {A B : Type 0} (f : A → List B) (xs : List A) (x : A) → flat_map f (xs ++ x ∷ []) ≡ flat_map f xs ++ f x
+flat_map-push : {A B : Type 0} (f : A → List B) (xs : List A) (x : A) → flat_map f (xs ++ x ∷ []) ≡ flat_map f xs ++ f x
 flat_map-push f xs x = flat_map-append f xs (x ∷ []) ∙ ap (λ ys. flat_map f xs ++ ys) (flat_map-cons f x [] ∙ append-nil (f x))
 
 -- the first members of one shard more
@@ -63,7 +63,7 @@ several_more listed list test is = filter-append (λ (l : List ℕ). nat_lt 1 (l
 
 module _ (k : ℕ) (classes : List (List ℕ)) where
   -- no class is listed yet
-  pub row_none : (old : List Place) → AddsPlacesOf k classes (take 0 classes) old old
+  row_none : (old : List Place) → AddsPlacesOf k classes (take 0 classes) old old
   row_none old = record {
     row = [];
     items = sym (append-nil old);
@@ -226,7 +226,7 @@ module _ (b : Limits) (shards : List ShardParts) (places : List Place) (h : List
         subst (λ x. place.class < length x) (one_classes s.bounds s.journal (get_or h.all place.shard []) classes (classes_there h.all h.are) are) place_in.class
 
     module _ (list : List ℕ) (told : (classes : List (List ℕ)) → AreClassesOf s.bounds s.journal classes → list ≡ get_or classes place.class []) where
-      pub place_list : (all : List (List (List ℕ))) → AllZip (AreClassesOf b) (journals_of shards) all → list ≡ class_at_place all place
+      place_list : (all : List (List (List ℕ))) → AllZip (AreClassesOf b) (journals_of shards) all → list ≡ class_at_place all place
       place_list all are = told (get_or all place.shard []) (classes_there all are)
 
       -- its members are ranks, where the entries are

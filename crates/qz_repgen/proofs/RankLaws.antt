@@ -37,7 +37,7 @@ module _ (b : Limits) (ranks : RanksAreOrder b) where
   known_representative part within h = subst (IsRepresentative b) (ranks.at_rank part within) (representative_at (rank b part) h)
 
   -- the circuit at the rank of a representative is kept
-  pub representative_kept_at : (r : ℕ) → IsRepresentativeRank b r → IsKept b (circuit_at b r)
+  representative_kept_at : (r : ℕ) → IsRepresentativeRank b r → IsKept b (circuit_at b r)
   representative_kept_at r h = representative_kept b (circuit_at b r) (representative_at r h)
 
   -- an equivalent circuit with a lower rank makes it none
@@ -73,5 +73,5 @@ module _ (b : Limits) (ranks : RanksAreOrder b) where
   }
 
   -- no member has a lower rank than its representative
-  pub member_not_lower : (r s : ℕ) → IsMemberRank b r s → s < r → ⊥
+  member_not_lower : (r s : ℕ) → IsMemberRank b r s → s < r → ⊥
   member_not_lower r s h lower = is_no_representative s r lower (representative_below r h.representative) (member_equivalent r s h) h.representative

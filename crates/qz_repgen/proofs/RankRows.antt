@@ -23,7 +23,7 @@ module _ (b : Limits) (lawful : IsLawful b) where
   some_gates s some listed = omega (arith, (last_gate b lawful s (gate_count b) refl some listed).longer)
 
   -- the rank of a circuit of k gates is below the number of circuits of at most k gates
-  pub rank_by_length : (k s : ℕ) → s < length (all_circuits b) → length (circuit_at b s) ≡ k → s < shorter (gate_count b) (suc k)
+  rank_by_length : (k s : ℕ) → s < length (all_circuits b) → length (circuit_at b s) ≡ k → s < shorter (gate_count b) (suc k)
   rank_by_length zero s listed long = elim (cases_lt 0 s) [
     | inl some ↦ absurd (omega (arith, some_gates s some listed))
     | inr none ↦ omega (arith, pow-zero (gate_count b))
@@ -45,7 +45,7 @@ module _ (b : Limits) (lawful : IsLawful b) where
       (rank_by_length (length (circuit_at b s)) s listed refl) (omega arith)).listed
 
   -- without its first gate a circuit has a smaller rank
-  pub first_rank_below : (s : ℕ) → 0 < s → s < length (all_circuits b) → rank b (without_first (circuit_at b s)) < s
+  first_rank_below : (s : ℕ) → 0 < s → s < length (all_circuits b) → rank b (without_first (circuit_at b s)) < s
   first_rank_below s some listed =
       let c = circuit_at b s in
       let within = circuit_at-within b s listed in
@@ -55,7 +55,7 @@ module _ (b : Limits) (lawful : IsLawful b) where
 
   module _ (s d r : ℕ) (place : r ≡ s * gate_count b + d + 1) (digit : d < gate_count b) (listed : r < length (all_circuits b)) where
     -- the circuit in front is a circuit within the limits
-    pub front_listed : s < length (all_circuits b)
+    front_listed : s < length (all_circuits b)
     front_listed = omega (arith, le-mul_of_pos_right s (some_gate b lawful (gate_count b) refl))
 
     -- the circuit in front, and the gate

@@ -67,7 +67,7 @@ module _ (b : Limits) (lawful : IsLawful b) where
         (exactly.exactly (rank b part)).1 (record { representative = record { circuit = part; representative = least; ranked = refl }; long = ap length (ranks.at_rank part least.within) ∙ long })
 
     -- a candidate is a kept circuit of one gate more
-    pub candidate_kept : (r : ℕ) → IsCandidate b parts r → IsKeptOf b (k + 1) r
+    candidate_kept : (r : ℕ) → IsCandidate b parts r → IsKeptOf b (k + 1) r
     candidate_kept r c =
         let here = candidate_circuit b lawful parts r c in
         let first = listed_part (without_first c.circuit) (first_within b c.circuit c.within) c.first in
@@ -80,7 +80,7 @@ module _ (b : Limits) (lawful : IsLawful b) where
         }
 
     -- and each of them is one
-    pub kept_candidate : (r : ℕ) → IsKeptOf b (k + 1) r → IsCandidate b parts r
+    kept_candidate : (r : ℕ) → IsKeptOf b (k + 1) r → IsCandidate b parts r
     kept_candidate r h =
         let c = circuit_at b r in
         elim h.kept.parts [

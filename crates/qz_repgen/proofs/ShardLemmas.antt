@@ -36,7 +36,7 @@ module _ (home : ℕ → ℕ) (P : ℕ → Type 0) (journals : List (List ℕ)) 
       none (subst P same ((at.exactly h (get_or journal k d) within).0 (Contains-get_or journal k d before)).0))) old)
 
   -- they have r too
-  pub at_home_more : AreAtHome home (λ s. P s ⊎ (r ≡ s)) longer
+  at_home_more : AreAtHome home (λ s. P s ⊎ (r ≡ s)) longer
   at_home_more = record {
     number = length-set journals h (get_or journals h [] ++ r ∷ []) ∙ at.number;
     different = still_different;
@@ -110,7 +110,7 @@ empty_held b probe qubits shards is = subst (ShardsHold b probe.seed (λ r. ⊥)
 
 module _ (b : Limits) (seed : ℕ) (P : ℕ → Type 0) (shards : List ShardParts) (held : ShardsHold b seed P shards) where
   -- all are of these limits
-  pub bounds_of_all : All (λ (s : ShardParts). s.bounds ≡ b) shards
+  bounds_of_all : All (λ (s : ShardParts). s.bounds ≡ b) shards
   bounds_of_all k d inside = (held.are.each k d (omega (arith, held.are.number))).bounds
 
   -- an entry is a rank of which the fact holds

@@ -18,7 +18,7 @@ all_by_contains P xs each k d inside = each (get_or xs k d) (Contains-get_or xs 
 
 module _ {A : Type 0} (R : A → A → Type 0) where
   -- the pairs of two lists end to end
-  pub pairs-append : (xs ys : List A) → AllPairs R xs → AllPairs R ys → ((x y : A) → Contains xs x → Contains ys y → R x y) → AllPairs R (xs ++ ys)
+  pairs-append : (xs ys : List A) → AllPairs R xs → AllPairs R ys → ((x y : A) → Contains xs x → Contains ys y → R x y) → AllPairs R (xs ++ ys)
   pairs-append [] ys rx ry across = ry
   pairs-append (x ∷ xs) ys rx ry across =
       AllPairs-cons R x (xs ++ ys)

@@ -26,9 +26,9 @@ fn last_gate(b: Bounds, r: u64) -> Op
 
 // A circuit, by its rank, and its values.
 #[derive(Drop)]
-pub(crate) struct CircuitValues {
-    pub(crate) rank: u64,
-    pub(crate) values: Values,
+struct CircuitValues {
+    rank: u64,
+    values: Values,
 }
 
 impl CircuitValues {
@@ -88,10 +88,10 @@ impl CircuitValues {
 // A circuit, by its rank, what the fingerprints of it with one gate more are made of, and the values of a shorter circuit. The
 // next circuit mostly is that shorter one with another gate.
 #[derive(Drop)]
-pub(crate) struct CircuitExtensions {
-    pub(crate) rank: u64,
-    pub(crate) extensions: Extensions,
-    pub(crate) shorter: CircuitValues,
+struct CircuitExtensions {
+    rank: u64,
+    extensions: Extensions,
+    shorter: CircuitValues,
 }
 
 impl CircuitExtensions {

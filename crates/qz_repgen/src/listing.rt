@@ -13,7 +13,7 @@ use std::alloc::Global;
 
 // Where a class stands: its first member, the number of its shard, and its number there.
 #[derive(Clone, Copy)]
-pub(crate) struct Place {
+struct Place {
     first: u64,
     shard: usize,
     class: u64,

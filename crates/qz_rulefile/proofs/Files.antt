@@ -54,7 +54,7 @@ times_from W t k (x ∷ xs) text h = (
   h.text_is,
 )
 
-pub times_exact : {X : Type 0} (W : X → Type 0) (t : X → List ℕ) (part : List ℕ → Read X) → Exact (Spelled W t) part → (k : ℕ) → Exact (SpelledTimes W t k) (times_at part k)
+times_exact : {X : Type 0} (W : X → Type 0) (t : X → List ℕ) (part : List ℕ → Read X) → Exact (Spelled W t) part → (k : ℕ) → Exact (SpelledTimes W t k) (times_at part k)
 unfolding times_at one_then
 times_exact {X} W t part e zero =
     spelling (Now []) (SpelledTimes W t zero) (λ bytes. Ok ([], bytes))
@@ -93,7 +93,7 @@ pub record IsCount (letters : List ℕ) (low k : ℕ) (text : List ℕ) : Type 0
   pub few : k < 1000000000
   pub text_is : text ≡ letters ++ (decimal k ++ 10 ∷ [])
 
-pub count_exact : (letters : List ℕ) (low : ℕ) → low ≤ 10 → Exact (IsCount letters low) (count_at letters low)
+count_exact : (letters : List ℕ) (low : ℕ) → low ≤ 10 → Exact (IsCount letters low) (count_at letters low)
 unfolding count_at
 count_exact letters low small =
     spelling (Then (OneOf (letters ∷ [])) (λ _. IsNumber 10 low)) (IsCount letters low) (λ bytes. one_of_at (letters ∷ []) bytes >>= λ w. number_at 10 low w.1)
@@ -110,7 +110,7 @@ IsRank b r = r < length (all_circuits b)
 abbrev pub rank_line : Limits → ℕ → List ℕ
 rank_line b r = member_text (circuit_at b r)
 
-pub line_exact : (b : Limits) → IsLawful b → Exact (Spelled (IsRank b) (rank_line b)) (member_at b)
+line_exact : (b : Limits) → IsLawful b → Exact (Spelled (IsRank b) (rank_line b)) (member_at b)
 line_exact b h = spelling (IsMember b) (Spelled (IsRank b) (rank_line b)) (member_at b) (λ r text m. record { fit = m.listed; text_is = m.text_is }) (λ r text s. record { listed = s.fit; text_is = s.text_is }) (member_exact b h)
 
 -- two ranks or more, and not too many
@@ -154,7 +154,7 @@ class_from b ranks text s = (
 )
 
 -- a class is read exactly
-pub class_exact : (b : Limits) → IsLawful b → Exact (Spelled (AreMembers b) (ranks_text b)) (class_at b)
+class_exact : (b : Limits) → IsLawful b → Exact (Spelled (AreMembers b) (ranks_text b)) (class_at b)
 unfolding class_at
 class_exact b h =
     spelling (class_parts b) (Spelled (AreMembers b) (ranks_text b)) (λ bytes. count_at class_word 2 bytes >>= λ n. times_at (member_at b) n.0 n.1)

@@ -45,7 +45,7 @@ pub folded_all : {S X : Type 0} (step : S → X → S) (s : S) (part : List ℕ 
 folded_all step s part count bytes = let k : count - 0 ≡ count = omega arith in ap (λ n. folded_at step s part n bytes) k
 
 -- all members go to the end of the list
-pub all_appended : (xs ys : List ℕ) → after_each one_more xs ys ≡ xs ++ ys
+all_appended : (xs ys : List ℕ) → after_each one_more xs ys ≡ xs ++ ys
 all_appended xs [] = sym (append-nil xs)
 all_appended xs (y ∷ ys) = all_appended (xs ++ y ∷ []) ys ∙ append_assoc xs (y ∷ []) ys
 

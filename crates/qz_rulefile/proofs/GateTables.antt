@@ -74,11 +74,11 @@ listed_of b k text (Some g) e h = record {
   at = get_or_from_slice_get (gates_of b) k g (H 0) e;
 }
 
-pub listed_gate : (b : Limits) (k : ℕ) (text : List ℕ) → slice_get (gate_texts b) k ≡ Some text → Listed b k text
+listed_gate : (b : Limits) (k : ℕ) (text : List ℕ) → slice_get (gate_texts b) k ≡ Some text → Listed b k text
 listed_gate b k text e = listed_of b k text (slice_get (gates_of b) k) refl (sym (gate_text_at b k) ∙ e)
 
 -- a gate has its text at its place
-pub text_of_listed : (b : Limits) (k : ℕ) (g : Op) → slice_get (gates_of b) k ≡ Some g → slice_get (gate_texts b) k ≡ Some (gate_text g)
+text_of_listed : (b : Limits) (k : ℕ) (g : Op) → slice_get (gates_of b) k ≡ Some g → slice_get (gate_texts b) k ≡ Some (gate_text g)
 text_of_listed b k g e = gate_text_at b k ∙ ap (option_map gate_text) e
 
 -- behind a gate

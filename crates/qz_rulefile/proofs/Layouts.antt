@@ -67,7 +67,7 @@ pub start_first : (start : ℕ) (ends : List ℕ) (c : ℕ) → c ≡ 0 → star
 start_first start ends zero e = refl
 start_first start ends (suc c) e = absurd (omega arith)
 
-pub record Part (A : Type 0) (start : ℕ) (ends : List ℕ) (xs : List A) (c : ℕ) : Type 0 where
+record Part (A : Type 0) (start : ℕ) (ends : List ℕ) (xs : List A) (c : ℕ) : Type 0 where
   pub is : get_or (parts_from start ends xs) c [] ≡ slice_range xs (start_of start ends c) (get_or ends c 0)
   pub from : start_of start ends c ≤ get_or ends c 0
   pub within : get_or ends c 0 ≤ length xs
@@ -78,7 +78,7 @@ part_at start (end ∷ ends) xs zero e lt = record { is = refl; from = e.0; with
 part_at start (end ∷ ends) xs (suc zero) e lt = let p = part_at end ends xs 0 e.1 (omega arith) in record { is = p.is; from = p.from; within = p.within }
 part_at start (end ∷ ends) xs (suc (suc c)) e lt = let p = part_at end ends xs (suc c) e.1 (omega arith) in record { is = p.is; from = p.from; within = p.within }
 
-pub length-parts : {A : Type 0} (start : ℕ) (ends : List ℕ) (xs : List A) → length (parts_from start ends xs) ≡ length ends
+length-parts : {A : Type 0} (start : ℕ) (ends : List ℕ) (xs : List A) → length (parts_from start ends xs) ≡ length ends
 length-parts start [] xs = refl
 length-parts start (end ∷ ends) xs = ap (λ n. suc n) (length-parts end ends xs)
 
@@ -89,7 +89,7 @@ pub record ClassKept (b : Limits) (ends members : List ℕ) (c start end : ℕ) 
   pub len : length (numbered_class (circuits_of_ranks b (parts ends members)) c) ≡ end - start
   pub member : (k : ℕ) → k < end - start → numbered_member (circuits_of_ranks b (parts ends members)) c k ≡ circuit_at b (get_or members (start + k) 0)
 
-pub class_kept_at : (b : Limits) (ends members : List ℕ) (c start end : ℕ) → AreEnds 0 ends (length members) → c < length ends → start ≡ start_of 0 ends c → end ≡ get_or ends c 0 → ClassKept b ends members c start end
+class_kept_at : (b : Limits) (ends members : List ℕ) (c start end : ℕ) → AreEnds 0 ends (length members) → c < length ends → start ≡ start_of 0 ends c → end ≡ get_or ends c 0 → ClassKept b ends members c start end
 class_kept_at b ends members c start end e lt s t =
     let p = part_at 0 ends members c e lt in
     let ranks = slice_range members start end in
@@ -110,7 +110,7 @@ pub kept_len : (b : Limits) (ends members : List ℕ) → length (circuits_of_ra
 kept_len b ends members = length-map (parts ends members) (map (circuit_at b)) ∙ length-parts 0 ends members
 
 -- each class has two members or more, and not too many
-pub class_fit : (b : Limits) (classes : List (List Circuit)) (c : ℕ) → AreClasses b classes → c < length classes → IsClass b (numbered_class classes c)
+class_fit : (b : Limits) (classes : List (List Circuit)) (c : ℕ) → AreClasses b classes → c < length classes → IsClass b (numbered_class classes c)
 class_fit b classes c f lt = All-from_recursion (IsClass b) classes f.each c [] lt
 
 -- ---- seen as a value

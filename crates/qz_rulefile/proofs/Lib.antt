@@ -1,15 +1,15 @@
-pub mod TextLemmas
-pub mod SoundMembers
-pub mod Exact
-pub mod OneOf
-pub mod Numbers
-pub mod GateTables
-pub mod Members
-pub mod Files
-pub mod PartSteps
-pub mod Folds
-pub mod Places
-pub mod RankedFiles
-pub mod Layouts
-pub mod WholeFiles
+mod TextLemmas
+mod SoundMembers
+mod Exact
+mod OneOf
+mod Numbers
+mod GateTables
+mod Members
+mod Files
+mod PartSteps
+mod Folds
+mod Places
+mod RankedFiles
+mod Layouts
+mod WholeFiles
 pub mod Unique

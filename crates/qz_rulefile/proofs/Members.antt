@@ -230,7 +230,7 @@ none_listed b =
     let one_more_is : 1 + b.n ≡ suc b.n = omega arith in
     omega (arith, length-all_circuits b, pow-zero (gate_count b), shorter-monotone (gate_count b) 1 b.n, ap (shorter (gate_count b)) one_more_is)
 
-pub first_gate_front : (b : Limits) (k : ℕ) → 0 < b.n → k < gate_count b → IsFront b 1 (b.n - 1) (suc k)
+first_gate_front : (b : Limits) (k : ℕ) → 0 < b.n → k < gate_count b → IsFront b 1 (b.n - 1) (suc k)
 first_gate_front b k some lt =
     let whole : b.n ≡ suc (b.n - 1) = omega arith in
     let place : 0 * gate_count b + suc k ≡ suc k = omega arith in

@@ -34,7 +34,7 @@ two_true false b e = absurd cc
 -- ---- the digits of numbers
 
 -- a number with one digit more
-pub more_digit : (v d : ℕ) → 0 < v → d < 10 → v < 1000000000 → decimal (v * 10 + d) ≡ decimal v ++ (48 + d) ∷ []
+more_digit : (v d : ℕ) → 0 < v → d < 10 → v < 1000000000 → decimal (v * 10 + d) ≡ decimal v ++ (48 + d) ∷ []
 more_digit v d some small few =
     let tens : (v * 10 + d) / 10 ≡ v = omega (arith, ints) in
     let ones : (v * 10 + d) % 10 ≡ d = omega (arith, ints) in
@@ -303,7 +303,7 @@ digits_faults stop low below small (b ∷ bytes) value n ten few h =
         let yes : is_more value b ≡ true = is_more_true value b (record { some = g.some; few = g.few; low = omega (arith, g.next.is); high = omega (arith, g.next.is, g.next.small) }) in
         cc
 
-pub digits_exact : (stop low value : ℕ) → stop < 48 → low ≤ 10 → low ≤ value * 10 → value < 1000000000 → Exact (IsRest stop low value) (digits_at stop low value)
+digits_exact : (stop low value : ℕ) → stop < 48 → low ≤ 10 → low ≤ value * 10 → value < 1000000000 → Exact (IsRest stop low value) (digits_at stop low value)
 digits_exact stop low value below small ten few = record {
   takes = λ bytes n rest h. digits_takes stop low bytes value n rest few h;
   again = λ n text rest t. digits_again stop low below text value n rest few t;

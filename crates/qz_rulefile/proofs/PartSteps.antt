@@ -7,7 +7,7 @@ use Rattle.std.specs.Global.{Vec}
 use Rattle.std.proofs.lemmas.List.{get_or-map, length-map}
 use Rattle.std.proofs.lemmas.Option.{slice_get-get_or}
 use Rattle.qz_rulefile.specs.Reading.{common, shared, first_text, one_of_at, are_apart, digits_at}
-use Rattle.qz_rulefile.specs.Texts.{texts_of}
+use Rattle.qz_circ.specs.Vectors.{lists_of}
 use Rattle.qz_rulefile.proofs.OneOf.{whole_begins, first_text_again}
 
 -- one byte more is shared
@@ -116,10 +116,10 @@ more_bounds value b e = by_tests (ltb 0 value) (ltb value 100000000) (leb 48 b) 
 
 -- ---- texts that are kept as vectors
 
-pub text_kept : (texts : List (Vec ℕ)) (k : ℕ) (text : Vec ℕ) → k < length texts → text ≡ get_or texts k text → text.items ≡ get_or (texts_of texts) k []
+pub text_kept : (texts : List (Vec ℕ)) (k : ℕ) (text : Vec ℕ) → k < length texts → text ≡ get_or texts k text → text.items ≡ get_or (lists_of texts) k []
 text_kept texts k text lt e = ap (λ (v : Vec ℕ). v.items) e ∙ sym (get_or-map (λ (v : Vec ℕ). v.items) texts k text [] lt)
 
-pub texts_len : (texts : List (Vec ℕ)) → length (texts_of texts) ≡ length texts
+pub texts_len : (texts : List (Vec ℕ)) → length (lists_of texts) ≡ length texts
 texts_len texts = length-map texts (λ (v : Vec ℕ). v.items)
 
 -- a text that the bytes share whole is found by a reader

@@ -72,7 +72,7 @@ fault_place b h bytes head n e is_head =
     let read : file_at b (head ++ bytes) ≡ Err n = behind_head b head bytes (head ++ bytes) is_head refl ∙ kept_fault b bytes n e in
     place_of_circuits b h (head ++ bytes) (length (head ++ bytes) - n) (place_of_fault (IsRankFile b) (file_at b) (file_exact b h) (head ++ bytes) n read)
 
-pub fault_within : (b : Limits) → IsLawful b → (bytes : List ℕ) (n : ℕ) → kept_at b bytes ≡ Err n → n ≤ length bytes
+fault_within : (b : Limits) → IsLawful b → (bytes : List ℕ) (n : ℕ) → kept_at b bytes ≡ Err n → n ≤ length bytes
 fault_within b h bytes n e = left_within (Spelled (AreRankClasses b) (lists_text b)) (classes_at b) (classes_exact b h) bytes n (kept_fault b bytes n e)
 
 -- the first two lines that were read

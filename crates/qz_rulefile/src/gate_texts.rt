@@ -6,7 +6,7 @@ ghost use Rattle.qz_circ.specs.FirstFault.{Gives};
 ghost use Rattle.qz_circ.specs.Order.{all_circuits};
 ghost use Rattle.qz_circ.specs.RuleText.{gate_text};
 ghost use Rattle.qz_rulefile.specs.Reading as reading;
-ghost use Rattle.qz_rulefile.specs.Texts.{texts_of};
+ghost use Rattle.qz_circ.specs.Vectors.{lists_of};
 
 use crate::parts::{one_of, word};
 use crate::rule_text::push_gate;
@@ -21,11 +21,11 @@ pub(crate) struct GateTexts {
     first: Vec<Vec<u8>>,
     // what follows a gate: the end of the line, or a semicolon and a gate
     next: Vec<Vec<u8>>,
-    ghost first_are: { texts_of first.items ≡ reading.first_texts bounds },
-    ghost next_are: { texts_of next.items ≡ reading.next_texts bounds },
-    ghost first_apart: { reading.are_apart (texts_of first.items) ≡ true },
+    ghost first_are: { lists_of first.items ≡ reading.first_texts bounds },
+    ghost next_are: { lists_of next.items ≡ reading.next_texts bounds },
+    ghost first_apart: { reading.are_apart (lists_of first.items) ≡ true },
     ghost lawful: { IsLawful bounds },
-    ghost next_apart: { reading.are_apart (texts_of next.items) ≡ true },
+    ghost next_apart: { reading.are_apart (lists_of next.items) ≡ true },
 }
 
 // The text of a gate behind some letters.
@@ -48,7 +48,7 @@ fn gate(k: u64, b: Bounds) -> Op
 
 // Appends a text.
 fn push_text(texts: &mut Vec<Vec<u8>>, text: Vec<u8>) -> Result<(), AllocError>
-    ensures { OnOk result (texts_of texts.new.items ≡ texts_of texts.old.items ++ text.items ∷ []) }
+    ensures { OnOk result (lists_of texts.new.items ≡ lists_of texts.old.items ++ text.items ∷ []) }
 {
     match texts.push(text) {
         Ok(()) => Ok(()),
@@ -65,7 +65,7 @@ fn table(
     count: u64,
 ) -> Result<Vec<Vec<u8>>, AllocError>
     requires { count ≤ gate_count b }
-    ensures { IfOk result (λ texts. texts_of texts.items ≡ text.now ∷ map (λ g. letters.now ++ gate_text g) (take count (gates_of b))) }
+    ensures { IfOk result (λ texts. lists_of texts.items ≡ text.now ∷ map (λ g. letters.now ++ gate_text g) (take count (gates_of b))) }
 {
     let mut texts = Vec::new(alloc);
     let first = Vec::from_slice(alloc, text)?;
@@ -82,8 +82,8 @@ fn table(
 // What a member begins with.
 fn first_table(alloc: Global, b: Bounds) -> Result<Vec<Vec<u8>>, AllocError>
     ensures lawful { IsLawful b }
-    ensures are { IfOk result (λ texts. texts_of texts.items ≡ reading.first_texts b) }
-    ensures apart { IfOk result (λ texts. reading.are_apart (texts_of texts.items) ≡ true) }
+    ensures are { IfOk result (λ texts. lists_of texts.items ≡ reading.first_texts b) }
+    ensures apart { IfOk result (λ texts. reading.are_apart (lists_of texts.items) ≡ true) }
 {
     if b.n() == 0 {
         let texts = table(alloc, b, b"-\n", b"", 0)?;
@@ -95,8 +95,8 @@ fn first_table(alloc: Global, b: Bounds) -> Result<Vec<Vec<u8>>, AllocError>
 
 // What follows a gate.
 fn next_table(alloc: Global, b: Bounds) -> Result<Vec<Vec<u8>>, AllocError>
-    ensures are { IfOk result (λ texts. texts_of texts.items ≡ reading.next_texts b) }
-    ensures apart { IfOk result (λ texts. reading.are_apart (texts_of texts.items) ≡ true) }
+    ensures are { IfOk result (λ texts. lists_of texts.items ≡ reading.next_texts b) }
+    ensures apart { IfOk result (λ texts. reading.are_apart (lists_of texts.items) ≡ true) }
 {
     let texts = table(alloc, b, b"\n", b";", b.gates())?;
     Ok(texts)

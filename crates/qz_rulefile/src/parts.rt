@@ -3,10 +3,10 @@
 ghost use Rattle.std.specs.Prelude.{◌≡◌, ◌<◌, ◌≤◌, ◌+◌, ◌*◌, [], ◌∷◌, length, true, option_map, ◌==◌, ◌&&◌, nat_lt, nat_le, slice_index_or};
 ghost use Rattle.qz_circ.specs.FirstFault.{Gives};
 ghost use Rattle.qz_rulefile.specs.Reading as reading;
-ghost use Rattle.qz_rulefile.specs.Texts.{texts_of};
+ghost use Rattle.qz_circ.specs.Vectors.{lists_of};
 
 // How many bytes two texts share from the front on.
-pub(crate) fn common_len(text: &[u8], bytes: &[u8]) -> usize
+fn common_len(text: &[u8], bytes: &[u8]) -> usize
     ensures common { result ≡ reading.common text.now bytes.now }
     ensures within_text { result ≤ length text.now }
     ensures within { result ≤ length bytes.now }
@@ -27,14 +27,14 @@ pub(crate) fn common_len(text: &[u8], bytes: &[u8]) -> usize
 // The text with this number.
 fn text_at(texts: &[Vec<u8>], k: usize) -> &[u8]
     requires { k < length texts.now }
-    ensures { result.now ≡ slice_index_or (texts_of texts.now) k [] }
+    ensures { result.now ≡ slice_index_or (lists_of texts.now) k [] }
 {
     texts[k].as_slice()
 }
 
 // The number of the first text with which the bytes begin, and the bytes after it.
 fn first_text<'a>(texts: &[Vec<u8>], bytes: &'a [u8]) -> Option<(usize, &'a [u8])>
-    ensures { option_map (λ x. (x.0, x.1.now)) result ≡ reading.first_text (texts_of texts.now) bytes.now }
+    ensures { option_map (λ x. (x.0, x.1.now)) result ≡ reading.first_text (lists_of texts.now) bytes.now }
 {
     for k in 0..texts.len() {
         let text = text_at(texts, k);
@@ -48,7 +48,7 @@ fn first_text<'a>(texts: &[Vec<u8>], bytes: &'a [u8]) -> Option<(usize, &'a [u8]
 
 // The most bytes that one of the texts shares with the bytes.
 fn most_shared(texts: &[Vec<u8>], bytes: &[u8]) -> usize
-    ensures shared { result ≡ reading.shared (texts_of texts.now) bytes.now }
+    ensures shared { result ≡ reading.shared (lists_of texts.now) bytes.now }
     ensures within { result ≤ length bytes.now }
 {
     let mut most: usize = 0;
@@ -61,7 +61,7 @@ fn most_shared(texts: &[Vec<u8>], bytes: &[u8]) -> usize
 // One of some texts, told by its number, by looking at all of them.
 #[tactic(auto, unfolding(crate::specs::Reading::one_of_at))]
 fn any_of<'a>(texts: &[Vec<u8>], bytes: &'a [u8]) -> Result<(usize, &'a [u8]), usize>
-    ensures { Gives (λ x. (x.0, x.1.now)) result (reading.one_of_at (texts_of texts.now) bytes.now) }
+    ensures { Gives (λ x. (x.0, x.1.now)) result (reading.one_of_at (lists_of texts.now) bytes.now) }
 {
     match first_text(texts, bytes) {
         Some(found) => Ok(found),
@@ -75,8 +75,8 @@ pub(crate) fn one_of<'a>(
     guess: usize,
     bytes: &'a [u8],
 ) -> Result<(usize, &'a [u8]), usize>
-    requires { reading.are_apart (texts_of texts.now) ≡ true }
-    ensures { Gives (λ x. (x.0, x.1.now)) result (reading.one_of_at (texts_of texts.now) bytes.now) }
+    requires { reading.are_apart (lists_of texts.now) ≡ true }
+    ensures { Gives (λ x. (x.0, x.1.now)) result (reading.one_of_at (lists_of texts.now) bytes.now) }
 {
     if guess < texts.len() {
         let text = text_at(texts, guess);

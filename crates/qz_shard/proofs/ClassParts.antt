@@ -9,11 +9,11 @@ use Rattle.qz_shard.specs.declared.class.Class.{Class}
 use Rattle.qz_shard.specs.Held.{prints_in, links_in, members_in, members_at, first_at, HasMembers}
 
 -- a part of the class at a place
-pub read_part : {B : Type 0} (f : Class → B) (classes : List Class) (k : ℕ) (x : Class) (e : B) → k < length classes → x ≡ get_or classes k x → get_or (map f classes) k e ≡ f x
+read_part : {B : Type 0} (f : Class → B) (classes : List Class) (k : ℕ) (x : Class) (e : B) → k < length classes → x ≡ get_or classes k x → get_or (map f classes) k e ≡ f x
 read_part f classes k x e within is = get_or-map f classes k x e within ∙ ap f (sym is)
 
 module _ (classes : List Class) (k : ℕ) (x : Class) (within : k < length classes) (is : x ≡ get_or classes k x) where
-  pub print_read : slice_index (prints_in classes) k ≡ x.print
+  print_read : slice_index (prints_in classes) k ≡ x.print
   print_read = read_part (λ c. c.print) classes k x 0 within is
 
   pub link_read : slice_index_or (links_in classes) k None ≡ x.before

@@ -6,13 +6,13 @@ use Rattle.qz_finger.specs.contracts.probe.Probe as probe
 use Rattle.qz_shard.specs.contracts.class.Class as class
 use Rattle.qz_shard.specs.contracts.shard.Shard as shard
 
-pub bounds_send : IsSend bounds.the_row
+bounds_send : IsSend bounds.the_row
 bounds_send = search (sendable, crosses) depth 30 fits 4000
 
 pub bounds_sync : IsSync bounds.the_row
 bounds_sync = search (sendable, crosses) depth 30 fits 4000
 
-pub probe_send : IsSend probe.the_row
+probe_send : IsSend probe.the_row
 probe_send = search (sendable, crosses) depth 30 fits 4000
 
 pub probe_sync : IsSync probe.the_row

@@ -26,12 +26,12 @@ abbrev pub with_entry : ShardParts → ℕ → ShardParts
 with_entry s r = record { number = s.number; bounds = s.bounds; probe = s.probe; journal = s.journal ++ r ∷ [] }
 
 -- a place below n is one below a number that isn't less
-pub last_below_same : (prints : List ℕ) (more : List ℕ) (print n : ℕ) (place : Option ℕ) → n ≤ length prints → IsLastBelow prints print n place → IsLastBelow (prints ++ more) print n place
+last_below_same : (prints : List ℕ) (more : List ℕ) (print n : ℕ) (place : Option ℕ) → n ≤ length prints → IsLastBelow prints print n place → IsLastBelow (prints ++ more) print n place
 last_below_same prints more print n None within h = λ j below same. h j below (sym (get_or_append_left prints more 0 j (omega arith)) ∙ same)
 last_below_same prints more print n (Some k) within h = (h.0, get_or_append_left prints more 0 k (omega (arith, h.0)) ∙ h.1, λ j after below same. h.2 j after below (sym (get_or_append_left prints more 0 j (omega arith)) ∙ same))
 
 -- one more place, where another fingerprint stands
-pub last_below_more : (prints : List ℕ) (print n : ℕ) (place : Option ℕ) → slice_index prints n ≢ print → IsLastBelow prints print n place → IsLastBelow prints print (n + 1) place
+last_below_more : (prints : List ℕ) (print n : ℕ) (place : Option ℕ) → slice_index prints n ≢ print → IsLastBelow prints print n place → IsLastBelow prints print (n + 1) place
 last_below_more prints print n None apart h = λ j below same. elim (cases_eq j n) [
   | inl at ↦ apart (subst (λ i. slice_index prints i ≡ print) at same)
   | inr other ↦ h j (omega arith) same
@@ -47,7 +47,7 @@ last_below_more prints print n (Some k) apart h = (
 
 module _ (s : ShardParts) (r : ℕ) (listed : r < length (all_circuits s.bounds)) (absent : Contains s.journal r → ⊥) (home : IsAtHome s r) where
   -- it is a shard with r too
-  pub shard_with : IsShard s → IsShard (with_entry s r)
+  shard_with : IsShard s → IsShard (with_entry s r)
   shard_with h = record {
     number = h.number;
     lawful = h.lawful;
@@ -58,7 +58,7 @@ module _ (s : ShardParts) (r : ℕ) (listed : r < length (all_circuits s.bounds)
   }
 
 -- the fingerprints of the journal
-abbrev pub prints_of_journal : ShardParts → List ℕ
+abbrev prints_of_journal : ShardParts → List ℕ
 prints_of_journal s = map (print_at s.bounds s.probe.seed) s.journal
 
 -- one of them is this one
@@ -66,21 +66,21 @@ abbrev pub has_print : ShardParts → ℕ → Bool
 has_print s print = contains (from_list {R = nat_cmp} (prints_of_journal s)) print
 
 -- how many different ones there are with one more entry
-pub prints_with : (s : ShardParts) (r : ℕ) → different_prints (with_entry s r) ≡ cond (has_print s (print_at s.bounds s.probe.seed r)) (different_prints s) (different_prints s + 1)
+prints_with : (s : ShardParts) (r : ℕ) → different_prints (with_entry s r) ≡ cond (has_print s (print_at s.bounds s.probe.seed r)) (different_prints s) (different_prints s + 1)
 prints_with s r =
     ap (λ ks. len (from_list {R = nat_cmp} ks)) (map-append (print_at s.bounds s.probe.seed) s.journal (r ∷ [])) ∙
     ap len (from_list_push nat_cmp_total nat_cmp-IsAntisymmetric (prints_of_journal s) (print_at s.bounds s.probe.seed r)) ∙
     len-insert nat_cmp_total (from_list {R = nat_cmp} (prints_of_journal s)) (print_at s.bounds s.probe.seed r)
 
 -- an entry's fingerprint is one
-pub has_of_entry : (s : ShardParts) (x print : ℕ) → Contains s.journal x → print_at s.bounds s.probe.seed x ≡ print → has_print s print ≡ true
+has_of_entry : (s : ShardParts) (x print : ℕ) → Contains s.journal x → print_at s.bounds s.probe.seed x ≡ print → has_print s print ≡ true
 has_of_entry s x print has is =
     contains-from_list_nat (prints_of_journal s) print ∙
     list_any_at (λ y. nat_eq y print) (prints_of_journal s) has.0 (print_at s.bounds s.probe.seed x) (let size = length-map s.journal (print_at s.bounds s.probe.seed) in omega (arith, has.1))
     (eq-eqb (get_or (prints_of_journal s) has.0 (print_at s.bounds s.probe.seed x)) print (get_or-map (print_at s.bounds s.probe.seed) s.journal has.0 x (print_at s.bounds s.probe.seed x) has.1 ∙ ap (print_at s.bounds s.probe.seed) has.2 ∙ is))
 
 -- where no entry has it, it is none
-pub has_none : (s : ShardParts) (print : ℕ) → ((x : ℕ) → Contains s.journal x → print_at s.bounds s.probe.seed x ≡ print → ⊥) → has_print s print ≡ false
+has_none : (s : ShardParts) (print : ℕ) → ((x : ℕ) → Contains s.journal x → print_at s.bounds s.probe.seed x ≡ print → ⊥) → has_print s print ≡ false
 has_none s print none =
     contains-from_list_nat (prints_of_journal s) print ∙
     list_any_none (λ y. nat_eq y print) (prints_of_journal s) (λ k d within.

@@ -1,8 +1,8 @@
 pub mod Zipped
 pub mod Partitions
-pub mod Insertion
-pub mod Walk
-pub mod ClassParts
-pub mod HeldShards
-pub mod ShardSteps
+mod Insertion
+mod Walk
+mod ClassParts
+mod HeldShards
+mod ShardSteps
 pub mod Crossing

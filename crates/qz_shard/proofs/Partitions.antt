@@ -20,7 +20,7 @@ classes_same R journal k l hk hl =
     zip_same (λ i c. ListsExactly (IsRelatedEntry R journal i) c) (λ i. lists_exactly_same (IsRelatedEntry R journal i)) hl.earliest k l (subst (λ is. AllZip (λ i class. ListsExactly (IsRelatedEntry R journal i) class) is k) places hk.each_class) hl.each_class
 
 -- a rising list with a greater number at its end
-pub increasing_push : (xs : List ℕ) (y : ℕ) → IsStrictlyIncreasing xs → ((x : ℕ) → Contains xs x → x < y) → IsStrictlyIncreasing (xs ++ y ∷ [])
+increasing_push : (xs : List ℕ) (y : ℕ) → IsStrictlyIncreasing xs → ((x : ℕ) → Contains xs x → x < y) → IsStrictlyIncreasing (xs ++ y ∷ [])
 increasing_push xs y rising below k in_range =
     all_pairs_push (λ a b. a < b) xs y (AllPairs-from_increasing xs rising) (λ i d within. below (get_or xs i d) (Contains-get_or xs i d within)) k (k + 1) 0 (omega arith) in_range
 
@@ -62,7 +62,7 @@ fronts_meet x y n xs ys rx ry to from =
     ]
 
 -- and the first list is the front of the second
-pub rising_front : (xs ys : List ℕ) (n : ℕ) → Rises xs → Rises ys → ((i : ℕ) → Contains xs i → (i < n) × Contains ys i) → ((i : ℕ) → Contains ys i → i < n → Contains xs i) →
+rising_front : (xs ys : List ℕ) (n : ℕ) → Rises xs → Rises ys → ((i : ℕ) → Contains xs i → (i < n) × Contains ys i) → ((i : ℕ) → Contains ys i → i < n → Contains xs i) →
     (k : ℕ) → k < length xs → (k < length ys) × (get_or xs k 0 ≡ get_or ys k 0)
 rising_front [] ys n rx ry to from k within = absurd (omega arith)
 rising_front (x ∷ xs) [] n rx ry to from k within = let there = (to x (contains_first x xs)).1 in absurd (omega (arith, there.1))
@@ -121,7 +121,7 @@ module _ (R : ℕ → ℕ → Type 0) (reflexive : (r : ℕ) → R r r) (symmetr
         transitive x (entry (place k)) y (symmetric (entry (place k)) x (((class_lists k within).exactly x).0 has_x).1) (((class_lists k within).exactly y).0 has_y).1
 
     -- what a member is related to is a member
-    pub related_member : (k x y : ℕ) → k < length classes → Contains (class k) x → Contains journal y → R x y → Contains (class k) y
+    related_member : (k x y : ℕ) → k < length classes → Contains (class k) x → Contains journal y → R x y → Contains (class k) y
     related_member k x y within has_x has_y related =
         ((class_lists k within).exactly y).1 (has_y, transitive (entry (place k)) x y (((class_lists k within).exactly x).0 has_x).1 related)
 

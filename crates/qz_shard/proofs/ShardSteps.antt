@@ -18,7 +18,7 @@ use Rattle.qz_shard.proofs.HeldShards.{with_entry, held_members, held_class, hel
 use Rattle.qz_shard.proofs.Partitions.{classes_same, few_classes}
 
 -- the same parts by other names
-pub held_as : (s s' : ShardParts) (prints prints' : List ℕ) (links links' : List (Option ℕ)) (members members' : List (List ℕ)) (newest : ℕ → Option ℕ) (keys keys' : ℕ) →
+held_as : (s s' : ShardParts) (prints prints' : List ℕ) (links links' : List (Option ℕ)) (members members' : List (List ℕ)) (newest : ℕ → Option ℕ) (keys keys' : ℕ) →
     s' ≡ s → prints' ≡ prints → links' ≡ links → members' ≡ members → keys' ≡ keys → IsHeldBy s prints links members newest keys → IsHeldBy s' prints' links' members' newest keys'
 held_as s s' prints prints' links links' members members' newest keys keys' at_s at_prints at_links at_members at_keys held =
     subst (λ x. IsHeldBy x prints' links' members' newest keys') (sym at_s)
@@ -28,7 +28,7 @@ held_as s s' prints prints' links links' members members' newest keys keys' at_s
     (subst (λ x. IsHeldBy s prints links members newest x) (sym at_keys) held))))
 
 -- the shard with another journal
-abbrev pub with_journal : ShardParts → List ℕ → ShardParts
+abbrev with_journal : ShardParts → List ℕ → ShardParts
 with_journal s journal = record { number = s.number; bounds = s.bounds; probe = s.probe; journal = journal }
 
 module _ {S : Type 0} (s : ShardParts) (classes : List Class) (newest : IndexMap ℕ ℕ S) (held : IsHeld s classes newest) where
@@ -46,7 +46,7 @@ module _ {S : Type 0} (s : ShardParts) (classes : List Class) (newest : IndexMap
   search_members = held_members s (prints_in classes) (links_in classes) (members_in classes) (get nat_eq newest) (index_map_len newest) held
 
   -- so many have the fingerprint
-  pub search_counted : (print : ℕ) (lists : List (List ℕ)) → AreClassesOf s.bounds s.journal lists → classes_with s print lists ≡ count_by (λ p. p == print) (prints_in classes)
+  search_counted : (print : ℕ) (lists : List (List ℕ)) → AreClassesOf s.bounds s.journal lists → classes_with s print lists ≡ count_by (λ p. p == print) (prints_in classes)
   search_counted print lists = held_counted s (prints_in classes) (links_in classes) (members_in classes) (get nat_eq newest) (index_map_len newest) held print lists prints_size
 
   -- the class that was found can take the rank in
@@ -120,7 +120,7 @@ module _ (s : ShardParts) (number : s.number < 16) (lawful : IsLawful s.bounds) 
   }
 
   -- a shard with an empty journal keeps nothing
-  pub held_nothing : IsHeldBy s [] [] [] (λ print. None) 0
+  held_nothing : IsHeldBy s [] [] [] (λ print. None) 0
   unfolding AreClassesOf
   held_nothing = record {
     shard = record {

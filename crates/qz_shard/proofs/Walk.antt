@@ -34,7 +34,7 @@ link_before prints print k (Some i) linked = omega (arith, linked.0)
 
 module _ (b : Limits) (classes : List Class) (last r start : ℕ) (inside : last < length classes) where
   -- the walk begins at the last class with the fingerprint
-  pub walk_begins : IsWalk b classes last r start start (Some last)
+  walk_begins : IsWalk b classes last r start start (Some last)
   walk_begins = record {
     within = omega arith;
     print = refl;

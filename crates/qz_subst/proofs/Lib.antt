@@ -1,6 +1,6 @@
-pub mod Split
-pub mod Placed
-pub mod Turns
-pub mod MovedWays
-pub mod InstanceGates
+mod Split
+mod Placed
+mod Turns
+mod MovedWays
+mod InstanceGates
 pub mod EquivalentInstances

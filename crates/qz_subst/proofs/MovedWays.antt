@@ -22,11 +22,11 @@ pub record IsChange (s : Exponent → Exponent) : Type 0 where
   pub turns : (k : ℕ) → s (turn_of k) ≡ turn_of k
 
 -- the ways between every two states, changed
-abbrev pub moved_ways : (Exponent → Exponent) → Ways → Ways
+abbrev moved_ways : (Exponent → Exponent) → Ways → Ways
 moved_ways s w i j = all_moved s (w i j)
 
 -- the kind of gate with its exponent changed
-abbrev pub moved_kind : (Exponent → Exponent) → Kind → Kind
+abbrev moved_kind : (Exponent → Exponent) → Kind → Kind
 moved_kind s mix = mix
 moved_kind s flip = flip
 moved_kind s flip_where = flip_where

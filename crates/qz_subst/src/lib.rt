@@ -2,6 +2,6 @@
 #![tactic(auto)]
 
 pub mod laws;
-pub mod substitution;
+mod substitution;
 
 pub use substitution::{instance, instance_len};

@@ -3,12 +3,12 @@
 //! In a transcript each call has the bytes that it moved, or a mark where it failed, and a comma.
 ghost use Rattle.std.specs.Prelude.{IsTrue};
 
+use crate::tests::{failures, row_holds, says};
 use qz_io::{
     IoFault, MemShelf, MemSink, MemSource, Named, Shelf, Sink, Source, SureShelf, SureSink,
     SureSource,
 };
 use std::alloc::{AllocError, Global};
-use std::process::Abort;
 use std::test::Fail;
 
 // Adds what a call answered that was handed this piece.
@@ -112,30 +112,12 @@ fn visits<F: Shelf>(
     Ok(text)
 }
 
-// Whether this is the transcript.
-fn says(text: &[u8], want: &str) -> bool {
-    text == want.as_bytes()
-}
-
-// How many calls of the transcript failed.
-fn failures(text: &[u8]) -> u64 {
-    text.iter().filter(|byte| **byte == b'!').count() as u64
-}
-
-// A source of four bytes with these stops answers so, and counts its faults.
-fn reads_so(
-    rt: &impl Abort,
-    alloc: Global,
-    stops: &[u64],
-    room: usize,
-    want: &str,
-) -> Result<(), AllocError> {
+// Whether a source of four bytes with these stops answers so, and counts its faults.
+fn reads_so(alloc: Global, stops: &[u64], room: usize, want: &str) -> Result<bool, AllocError> {
     let bytes = Vec::from_slice(alloc, b"abcd")?;
     let mut input = MemSource::new(bytes, Vec::from_slice(alloc, stops)?);
     let text = reads(alloc, &mut input, room)?;
-    assert!(rt; says(&text, want), "at {stops:?}");
-    assert!(rt; input.faults() == failures(want.as_bytes()));
-    Ok(())
+    Ok(says(&text, want) && input.faults() == failures(want))
 }
 
 #[test]
@@ -154,25 +136,17 @@ fn sources_stop(rt: HostRuntime) -> Result<(), Fail> {
         (&[0], 0, "!,,,,"),
     ];
     for (stops, room, want) in rows {
-        reads_so(&rt, rt.alloc(), stops, room, want)?;
+        row_holds(&rt, stops, want, reads_so(rt.alloc(), stops, room, want)?);
     }
     Ok(())
 }
 
-// A sink with these stops answers writes of this piece so, counts its faults, and keeps what it took.
-fn writes_so(
-    rt: &impl Abort,
-    alloc: Global,
-    stops: &[u64],
-    piece: &str,
-    want: &str,
-) -> Result<(), AllocError> {
+// Whether a sink with these stops answers writes of this piece so, counts its faults, and keeps what it took.
+fn writes_so(alloc: Global, stops: &[u64], piece: &str, want: &str) -> Result<bool, AllocError> {
     let mut out = MemSink::new(alloc, Vec::from_slice(alloc, stops)?);
     let text = writes(alloc, &mut out, piece.as_bytes())?;
-    assert!(rt; says(&text, want), "at {stops:?}");
-    assert!(rt; out.faults() == failures(want.as_bytes()) && out.wants() == 0);
-    assert!(rt; is_kept(out.written(), want));
-    Ok(())
+    let counts = out.faults() == failures(want) && out.wants() == 0;
+    Ok(says(&text, want) && counts && is_kept(out.written(), want))
 }
 
 // The bytes are those of the transcript, without its marks.
@@ -195,7 +169,7 @@ fn sinks_stop(rt: HostRuntime) -> Result<(), Fail> {
         (&[0], "", "!,,,,"),
     ];
     for (stops, piece, want) in rows {
-        writes_so(&rt, rt.alloc(), stops, piece, want)?;
+        row_holds(&rt, stops, want, writes_so(rt.alloc(), stops, piece, want)?);
     }
     Ok(())
 }
@@ -217,20 +191,17 @@ fn files(alloc: Global) -> Result<Vec<Named>, AllocError> {
     Ok(vec![in alloc; first, short, second, unnamed]?)
 }
 
-// A shelf with these stops answers visits to files with these names so, and counts its faults.
+// Whether a shelf with these stops answers visits to files with these names so, and counts its faults.
 fn visits_so(
-    rt: &impl Abort,
     alloc: Global,
     stops: &[u64],
     fail_open: bool,
     names: &[&str],
     want: &str,
-) -> Result<(), AllocError> {
+) -> Result<bool, AllocError> {
     let mut shelf = MemShelf::new(files(alloc)?, Vec::from_slice(alloc, stops)?, fail_open);
     let text = visits(alloc, &mut shelf, names, 3)?;
-    assert!(rt; says(&text, want), "at {stops:?}");
-    assert!(rt; shelf.faults() == failures(want.as_bytes()));
-    Ok(())
+    Ok(says(&text, want) && shelf.faults() == failures(want))
 }
 
 #[test]
@@ -247,23 +218,37 @@ fn shelves_stop(rt: HostRuntime) -> Result<(), Fail> {
         (&[], true, &["c", "c"], "c!c-"),
     ];
     for (stops, fail_open, names, want) in rows {
-        visits_so(&rt, rt.alloc(), stops, fail_open, names, want)?;
+        let holds = visits_so(rt.alloc(), stops, fail_open, names, want)?;
+        row_holds(&rt, stops, want, holds);
     }
     Ok(())
 }
 
+// The next three say whether the forms that never fail move all that they can.
+fn sure_source_gives_all(alloc: Global) -> Result<bool, AllocError> {
+    let mut input = SureSource::new(Vec::from_slice(alloc, b"abcd")?);
+    let nothing = reads(alloc, &mut input, 0)?;
+    let all = reads(alloc, &mut input, 3)?;
+    Ok(says(&nothing, ",,,,") && says(&all, "abc,d,,,"))
+}
+
+fn sure_sink_takes_all(alloc: Global) -> Result<bool, AllocError> {
+    let mut out = SureSink::new(alloc);
+    let text = writes(alloc, &mut out, b"ab")?;
+    Ok(says(&text, "ab,ab,ab,ab,") && says(out.written(), "abababab") && out.wants() == 0)
+}
+
+fn sure_shelf_gives_all(alloc: Global) -> Result<bool, AllocError> {
+    let mut shelf = SureShelf::new(files(alloc)?);
+    let all = visits(alloc, &mut shelf, &["a", "c", "", "a"], 4)?;
+    let nothing = visits(alloc, &mut shelf, &["b"], 0)?;
+    Ok(says(&all, "a:abcd,,,c-:e,,,a:abcd,,,") && says(&nothing, "b:,,,"))
+}
+
 #[test]
 fn sure_forms_move_all(rt: HostRuntime) -> Result<(), Fail> {
-    let alloc = rt.alloc();
-    let mut input = SureSource::new(Vec::from_slice(alloc, b"abcd")?);
-    assert!(rt; says(&reads(alloc, &mut input, 0)?, ",,,,"));
-    assert!(rt; says(&reads(alloc, &mut input, 3)?, "abc,d,,,"));
-    let mut out = SureSink::new(alloc);
-    assert!(rt; says(&writes(alloc, &mut out, b"ab")?, "ab,ab,ab,ab,"));
-    assert!(rt; says(out.written(), "abababab") && out.wants() == 0);
-    let mut shelf = SureShelf::new(files(alloc)?);
-    let text = visits(alloc, &mut shelf, &["a", "c", "", "a"], 4)?;
-    assert!(rt; says(&text, "a:abcd,,,c-:e,,,a:abcd,,,"));
-    assert!(rt; says(&visits(alloc, &mut shelf, &["b"], 0)?, "b:,,,"));
+    assert!(rt; sure_source_gives_all(rt.alloc())?);
+    assert!(rt; sure_sink_takes_all(rt.alloc())?);
+    assert!(rt; sure_shelf_gives_all(rt.alloc())?);
     Ok(())
 }

@@ -255,24 +255,47 @@ fn folder(rt: &HostRuntime) -> Result<String, Fail> {
     Ok(format!(in rt.alloc(); "{}/quartz-test-{number}", temporary.as_str())?)
 }
 
+// Whether the shelf gives the file again and again, and finds nothing under another name.
+fn finds_the_file<F: Shelf>(alloc: Global, shelf: &mut F, file: &str, other: &str) -> bool {
+    opens_and_gives(alloc, shelf, file, b"some bytes")
+        && opens_and_gives(alloc, shelf, file, b"some bytes")
+        && is_missing(shelf, other)
+        && is_missing(shelf, "")
+}
+
+// Whether the shelf, which has not failed yet, fails at a folder, and at a path through a file.
+fn fails_twice<D: Files + Drop>(
+    alloc: Global,
+    shelf: &mut DirShelf<D>,
+    folder: &str,
+    through: &str,
+) -> bool {
+    shelf_has_failed(shelf, 0)
+        && fails_to_open_or_to_read(alloc, shelf, folder)
+        && shelf_has_failed(shelf, 1)
+        && fails_to_open(shelf, through)
+        && shelf_has_failed(shelf, 2)
+}
+
+// Whether a shelf of the system answers so in a folder with one file.
+fn answers_in(rt: &HostRuntime, folder: &str, file: &str) -> Result<bool, AllocError> {
+    let alloc = rt.alloc();
+    let other = path_below(alloc, folder, "other")?;
+    let through = path_below(alloc, file, "below")?;
+    let mut shelf = DirShelf::new(rt);
+    Ok(
+        finds_the_file(alloc, &mut shelf, file, &other)
+            && fails_twice(alloc, &mut shelf, folder, &through),
+    )
+}
+
 #[test]
 fn reads_files_of_the_system(rt: HostRuntime) -> Result<(), Fail> {
     let folder = folder(&rt)?;
     fs::create_dir(&rt, &folder)?;
     let file = path_below(rt.alloc(), &folder, "file")?;
-    let other = path_below(rt.alloc(), &folder, "other")?;
-    let through = path_below(rt.alloc(), &file, "below")?;
     fs::write(&rt, &file, b"some bytes")?;
-    let mut shelf = DirShelf::new(&rt);
-    let as_wanted = opens_and_gives(rt.alloc(), &mut shelf, &file, b"some bytes")
-        && opens_and_gives(rt.alloc(), &mut shelf, &file, b"some bytes")
-        && is_missing(&mut shelf, &other)
-        && is_missing(&mut shelf, "")
-        && shelf_has_failed(&shelf, 0)
-        && fails_to_open_or_to_read(rt.alloc(), &mut shelf, &folder)
-        && shelf_has_failed(&shelf, 1)
-        && fails_to_open(&mut shelf, &through)
-        && shelf_has_failed(&shelf, 2);
+    let as_wanted = answers_in(&rt, &folder, &file)?;
     fs::remove_file(&rt, &file)?;
     fs::remove_dir(&rt, &folder)?;
     assert!(rt; as_wanted);

@@ -3,12 +3,12 @@
 //! In a transcript each call has the bytes that it gave, or a mark where it gave none for a cause, and a comma.
 ghost use Rattle.std.specs.Prelude.{IsTrue};
 
+use crate::tests::{failures, row_holds, says};
 use qz_io::{
     MemShelf, MemSink, MemSource, Named, Shelf, Sink, Source, SureShelf, SureSink, SureSource,
     Unread, deliver, read_file, read_source,
 };
 use std::alloc::{AllocError, Global};
-use std::process::Abort;
 use std::test::Fail;
 
 // Adds what a reading answered.
@@ -77,30 +77,12 @@ fn deliveries<O: Sink>(alloc: Global, out: &mut O, piece: &str) -> Result<Vec<u8
     Ok(text)
 }
 
-// Whether this is the transcript.
-fn says(text: &[u8], want: &str) -> bool {
-    text == want.as_bytes()
-}
-
-// How many calls of the transcript failed.
-fn failures(text: &[u8]) -> u64 {
-    text.iter().filter(|byte| **byte == b'!').count() as u64
-}
-
-// A source of four bytes with these stops is read so, and counts its faults.
-fn reads_so(
-    rt: &impl Abort,
-    alloc: Global,
-    stops: &[u64],
-    limit: u64,
-    want: &str,
-) -> Result<(), AllocError> {
+// Whether a source of four bytes with these stops is read so, and counts its faults.
+fn reads_so(alloc: Global, stops: &[u64], limit: u64, want: &str) -> Result<bool, AllocError> {
     let bytes = Vec::from_slice(alloc, b"abcd")?;
     let mut input = MemSource::new(bytes, Vec::from_slice(alloc, stops)?);
     let text = reads(alloc, &mut input, limit)?;
-    assert!(rt; says(&text, want), "at {stops:?}, within {limit}");
-    assert!(rt; input.faults() == failures(want.as_bytes()));
-    Ok(())
+    Ok(says(&text, want) && input.faults() == failures(want))
 }
 
 #[test]
@@ -119,7 +101,7 @@ fn reads_sources_to_their_end_or_past_the_limit(rt: HostRuntime) -> Result<(), F
         (&[2], 1, "+,!,+,"),
     ];
     for (stops, limit, want) in rows {
-        reads_so(&rt, rt.alloc(), stops, limit, want)?;
+        row_holds(&rt, stops, want, reads_so(rt.alloc(), stops, limit, want)?);
     }
     Ok(())
 }
@@ -131,19 +113,11 @@ fn one_file(alloc: Global) -> Result<Vec<Named>, AllocError> {
     Ok(vec![in alloc; file]?)
 }
 
-// A shelf with these stops is read so, and counts its faults.
-fn visits_so(
-    rt: &impl Abort,
-    alloc: Global,
-    stops: &[u64],
-    limit: u64,
-    want: &str,
-) -> Result<(), AllocError> {
+// Whether a shelf with these stops is read so, and counts its faults.
+fn visits_so(alloc: Global, stops: &[u64], limit: u64, want: &str) -> Result<bool, AllocError> {
     let mut shelf = MemShelf::new(one_file(alloc)?, Vec::from_slice(alloc, stops)?, false);
     let text = visits(alloc, &mut shelf, "a", limit)?;
-    assert!(rt; says(&text, want), "at {stops:?}, within {limit}");
-    assert!(rt; shelf.faults() == failures(want.as_bytes()));
-    Ok(())
+    Ok(says(&text, want) && shelf.faults() == failures(want))
 }
 
 #[test]
@@ -155,27 +129,16 @@ fn reads_files_to_their_end_or_past_the_limit(rt: HostRuntime) -> Result<(), Fai
         (&[4], 4, "!,,,"),
     ];
     for (stops, limit, want) in rows {
-        visits_so(&rt, rt.alloc(), stops, limit, want)?;
+        row_holds(&rt, stops, want, visits_so(rt.alloc(), stops, limit, want)?);
     }
     Ok(())
 }
 
-// A sink with these stops is delivered to so, keeps this, and counts its faults.
-fn delivers_so(
-    rt: &impl Abort,
-    alloc: Global,
-    stops: &[u64],
-    want: &str,
-    kept: &str,
-) -> Result<(), AllocError> {
+// Whether a sink with these stops is delivered to so, keeps this, and counts its faults.
+fn delivers_so(alloc: Global, stops: &[u64], want: &str, kept: &str) -> Result<bool, AllocError> {
     let mut out = MemSink::new(alloc, Vec::from_slice(alloc, stops)?);
     let text = deliveries(alloc, &mut out, "abc")?;
-    assert!(rt;
-        says(&text, want) && says(out.written(), kept),
-        "at {stops:?}"
-    );
-    assert!(rt; out.faults() == failures(want.as_bytes()));
-    Ok(())
+    Ok(says(&text, want) && says(out.written(), kept) && out.faults() == failures(want))
 }
 
 #[test]
@@ -188,7 +151,12 @@ fn delivers_up_to_a_fault(rt: HostRuntime) -> Result<(), Fail> {
         (&[9], "...", "abcabcabc"),
     ];
     for (stops, want, kept) in rows {
-        delivers_so(&rt, rt.alloc(), stops, want, kept)?;
+        row_holds(
+            &rt,
+            stops,
+            want,
+            delivers_so(rt.alloc(), stops, want, kept)?,
+        );
     }
     Ok(())
 }
@@ -230,14 +198,24 @@ fn reads_more_than_one_piece(rt: HostRuntime) -> Result<(), Fail> {
     Ok(())
 }
 
+// Whether the file of a shelf that never fails is read whole.
+fn sure_shelf_is_read(alloc: Global) -> Result<bool, AllocError> {
+    let mut shelf = SureShelf::new(one_file(alloc)?);
+    let file = visits(alloc, &mut shelf, "a", 4)?;
+    let other = visits(alloc, &mut shelf, "b", 4)?;
+    Ok(says(&file, "abcd,,,") && says(&other, "-"))
+}
+
+// Whether a sink that never fails gets whole texts.
+fn sure_sink_is_written(alloc: Global) -> Result<bool, AllocError> {
+    let mut out = SureSink::new(alloc);
+    let text = deliveries(alloc, &mut out, "abc")?;
+    Ok(says(&text, "...") && says(out.written(), "abcabcabc"))
+}
+
 #[test]
 fn sure_forms_are_read_and_written_whole(rt: HostRuntime) -> Result<(), Fail> {
-    let alloc = rt.alloc();
-    let mut shelf = SureShelf::new(one_file(alloc)?);
-    assert!(rt; says(&visits(alloc, &mut shelf, "a", 4)?, "abcd,,,"));
-    assert!(rt; says(&visits(alloc, &mut shelf, "b", 4)?, "-"));
-    let mut out = SureSink::new(alloc);
-    assert!(rt; says(&deliveries(alloc, &mut out, "abc")?, "..."));
-    assert!(rt; says(out.written(), "abcabcabc"));
+    assert!(rt; sure_shelf_is_read(rt.alloc())?);
+    assert!(rt; sure_sink_is_written(rt.alloc())?);
     Ok(())
 }

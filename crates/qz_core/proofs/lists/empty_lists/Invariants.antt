@@ -1,5 +1,6 @@
 use Rattle.std.proofs.Common.{◌≡◌, ◌≤◌, replicate, [], List, ℕ, vec_capacity}
-use Rattle.qz_core.specs.HeldRound.{lists_of, HaveRoom}
+use Rattle.qz_circ.specs.Vectors.{lists_of}
+use Rattle.qz_core.specs.HeldRound.{HaveRoom}
 use Rattle.qz_core.proofs.lists.empty_lists.Given as goal
 
 abbrev pub invariant-loop : goal.invariant-loop

@@ -1,4 +1,4 @@
-use Rattle.std.proofs.Common.{◌+◌, ◌<◌, length, get_or, sym, ap, subst, ◌∙◌, arith}
+use Rattle.std.proofs.Common.{◌+◌, ◌<◌, length, get_or, sym, ap, subst, ◌∙◌}
 use Rattle.qz_circ.specs.Classes.{ListsExactly}
 use Rattle.qz_circ.specs.Order.{all_circuits}
 use Rattle.qz_repgen.proofs.RoundLemmas.{IsTaken, taken_none, taken_all, next_is, next_new, taken_more}

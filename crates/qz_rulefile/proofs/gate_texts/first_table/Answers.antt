@@ -2,16 +2,16 @@ use Rattle.std.proofs.Common.{◌≡◌, ◌∙◌, sym, ap, map, ◌∷◌, [],
 use Rattle.qz_circ.specs.Circuit.{gates_of}
 use Rattle.qz_circ.specs.RuleText.{gate_text}
 use Rattle.qz_rulefile.specs.Reading.{are_apart, first_texts}
-use Rattle.qz_rulefile.specs.Texts.{texts_of}
+use Rattle.qz_circ.specs.Vectors.{lists_of}
 use Rattle.qz_rulefile.proofs.GateTables.{first_made_none, first_made_some, first_apart}
 use Rattle.qz_rulefile.proofs.gate_texts.first_table.Goals as goal
 use Rattle.qz_rulefile.proofs.gate_texts.first_table.Goals.{In_ok-texts, In_ok-texts-2}
 
-none : (c : In_ok-texts) → texts_of c.in_ok-texts.texts.items ≡ first_texts c.args.b
-none c = first_made_none c.args.b (texts_of c.in_ok-texts.texts.items) (sym c.n.ensures.value ∙ c.if-n-eq0.true) c.in_ok-texts.ensures
+none : (c : In_ok-texts) → lists_of c.in_ok-texts.texts.items ≡ first_texts c.args.b
+none c = first_made_none c.args.b (lists_of c.in_ok-texts.texts.items) (sym c.n.ensures.value ∙ c.if-n-eq0.true) c.in_ok-texts.ensures
 
-some : (c : In_ok-texts-2) → texts_of c.in_ok-texts-2.texts.items ≡ first_texts c.args.b
-some c = first_made_some c.args.b (texts_of c.in_ok-texts-2.texts.items) (λ e. c.if-n-eq0.false (c.n.ensures.value ∙ e))
+some : (c : In_ok-texts-2) → lists_of c.in_ok-texts-2.texts.items ≡ first_texts c.args.b
+some c = first_made_some c.args.b (lists_of c.in_ok-texts-2.texts.items) (λ e. c.if-n-eq0.false (c.n.ensures.value ∙ e))
     (c.in_ok-texts-2.ensures ∙ ap (λ k. (45 ∷ 10 ∷ []) ∷ map gate_text (take k (gates_of c.args.b))) c.gates.ensures.value)
 
 pub returns-then-n-eq0-clause-are : goal.returns-then-n-eq0-clause-are

@@ -1,7 +1,8 @@
 use Rattle.std.proofs.Common.{◌≡◌, ◌<◌, ◌+◌, Some, length, sym, ap, subst, ◌∙◌, arith}
 use Rattle.std.proofs.lemmas.Grind.{get_or_default_zero}
 use Rattle.std.proofs.lemmas.Option.{slice_get-get_or}
-use Rattle.qz_core.specs.HeldRound.{lists_of, round_of}
+use Rattle.qz_circ.specs.Vectors.{lists_of}
+use Rattle.qz_core.specs.HeldRound.{round_of}
 use Rattle.qz_core.specs.RoundMachine.{RoundState, with_entry, claimed, IsRound}
 use Rattle.qz_core.proofs.Rounds.{claimed_none, claimed_keeps}
 use Rattle.qz_core.proofs.HeldRounds.{claim_state, held}

@@ -1,7 +1,8 @@
 use Rattle.std.proofs.Common.{◌≡◌, ◌<◌, ◌==◌, true, false, true≢false, [], length, get_or, set, refl, sym, ap, subst, ◌∙◌}
 use Rattle.std.specs.List.{remove, list_any}
 use Rattle.std.specs.Set.{remove_key}
-use Rattle.qz_core.specs.HeldRound.{lists_of, round_of}
+use Rattle.qz_circ.specs.Vectors.{lists_of}
+use Rattle.qz_core.specs.HeldRound.{round_of}
 use Rattle.qz_core.specs.RoundMachine.{RoundState, with_entry, is_pending, put, IsRound}
 use Rattle.qz_core.proofs.Rounds.{put_none, pending_is, put_keeps}
 use Rattle.qz_core.proofs.Vectors.{place_none, place_some}

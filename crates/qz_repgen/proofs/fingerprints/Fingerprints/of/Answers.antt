@@ -1,4 +1,4 @@
-use Rattle.std.proofs.Common.{◌≡◌, ℕ, [], sym, ap, subst, ◌∙◌, arith}
+use Rattle.std.proofs.Common.{◌≡◌, [], sym, ap, subst, ◌∙◌, arith}
 use Rattle.qz_circ.specs.Order.{circuit_at}
 use Rattle.qz_circ.proofs.CircuitPlaces.{circuit_at-zero}
 use Rattle.qz_finger.specs.Fingerprint.{fingerprint}

@@ -1,7 +1,0 @@
--- Texts that are kept as vectors.
-use Rattle.std.specs.Prelude.{ℕ, List, map}
-use Rattle.std.specs.Global.{Vec}
-
--- the bytes of each text
-abbrev pub texts_of : List (Vec ℕ) → List (List ℕ)
-texts_of texts = map (λ text. text.items) texts
