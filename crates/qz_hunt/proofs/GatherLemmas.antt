@@ -1,5 +1,5 @@
 -- What is gathered of numbers that are drawn one after another and put together.
-use Rattle.std.proofs.Common.{◌≡◌, ◌<◌, ◌≤◌, ◌==◌, ◌||◌, ℕ, zero, suc, inl, inr, true, List, [], ◌∷◌, ◌++◌, length, take, drop, get_or, Contains, Vec, Some, None, Result, append-nil, drop-cons, sym, refl, ap, subst, ◌∙◌, arith}
+use Rattle.std.proofs.Common.{◌≡◌, ◌<◌, ◌≤◌, ◌==◌, ◌||◌, ℕ, suc, inl, inr, true, List, [], ◌∷◌, ◌++◌, length, take, drop, get_or, Contains, Vec, Some, None, Result, append-nil, drop-cons, sym, ap, subst, ◌∙◌, arith}
 use Rattle.std.specs.Prelude.{IfOk}
 use Rattle.std.specs.List.{filter, flat_map}
 use Rattle.std.proofs.lemmas.Bool.{eqb-true}
@@ -8,27 +8,20 @@ use Rattle.std.proofs.lemmas.List.Elements.{filter-append}
 use Rattle.qz_circ.specs.declared.circuit.Inst.{Inst}
 use Rattle.qz_queue.specs.Circuits.{circuits}
 use Rattle.qz_circ.specs.ProgramCircuits.{ProgramCircuit, program_cmp}
-use Rattle.qz_circ.specs.Queue.{QueueList, IsQueue, different, first_cap, firsts}
-use Rattle.qz_circ.specs.Search.{IsPlan, earliest}
+use Rattle.qz_circ.specs.Queue.{QueueList, IsQueue, firsts}
 use Rattle.qz_circ.proofs.ProgramOrder.{program_cmp_total, program_cmp_exact}
-use Rattle.qz_queue.proofs.DifferentOnes.{Has, has_take, has_drop, first_left, first_right, first_twice, first_same}
+use Rattle.qz_queue.proofs.DifferentOnes.{Has, has_append, has_left, has_right, has_take, has_drop, first_left, first_right, first_twice, first_same}
 use Rattle.qz_search.specs.Offers.{is_new, offered_to}
-use Rattle.qz_search.specs.Rounds.{SearchParts, new_children, advanced}
+use Rattle.qz_search.specs.Rounds.{SearchParts, new_children}
 use Rattle.qz_search.specs.Tables.{children_by_table}
 use Rattle.qz_search.proofs.Alike.{flat_map-append}
 use Rattle.qz_search.proofs.Members.{has_filter, filter_has, has_flat_map, flat_map_has, contains_has, has_contains}
-use Rattle.qz_search.proofs.Offering.{offered_on}
+use Rattle.qz_search.proofs.Offering.{nothing_offered, offered_lawful, offered_on}
 use Rattle.qz_seats.specs.declared.view.View.{View}
 use Rattle.qz_seats.specs.Views.{draws, joined}
 use Rattle.qz_seats.specs.Answers.{Drew}
 use Rattle.qz_seats.proofs.Sums.{counted_there}
-use Rattle.qz_hunt.specs.Gathered.{RoundParts, numbered, queue_of, gathered, IsGathered, AreMerged}
-
--- nothing is first of nothing
-no_first : (n : ℕ) → firsts n [] ≡ []
-unfolding first_cap different
-no_first zero = refl
-no_first (suc n) = refl
+use Rattle.qz_hunt.specs.Gathered.{RoundParts, numbered, gathered, IsGathered, AreMerged}
 
 -- the first of the first ones of two are those of both
 first_of_both : (n : ℕ) (xs ys : List ProgramCircuit) → firsts n (firsts n xs ++ firsts n ys) ≡ firsts n (xs ++ ys)
@@ -36,15 +29,25 @@ first_of_both n xs ys =
     first_right program_cmp_total program_cmp_exact n (firsts n xs) xs (firsts n ys) (first_twice program_cmp_total program_cmp_exact n xs)
     ∙ first_left program_cmp n xs (firsts n ys) ys (first_twice program_cmp_total program_cmp_exact n ys)
 
--- to offer the first of some is to offer all of them
-offered_first : (q : QueueList) (cs : List ProgramCircuit) → offered_to q (firsts q.cap cs) ≡ offered_to q cs
-offered_first q cs = λ i. record { cap = q.cap; list = first_left program_cmp q.cap q.list (firsts q.cap cs) cs (first_twice program_cmp_total program_cmp_exact q.cap cs) i }
+-- what was offered to a queue twice, some here and some there, was offered to it
+offered_to_both : (q : QueueList) (cs ds : List ProgramCircuit) → firsts q.cap ((offered_to q cs).list ++ (offered_to q ds).list) ≡ (offered_to q (cs ++ ds)).list
+offered_to_both q cs ds =
+    first_of_both q.cap (q.list ++ cs) (q.list ++ ds)
+    ∙ first_same program_cmp_total program_cmp_exact q.cap ((q.list ++ cs) ++ (q.list ++ ds)) (q.list ++ (cs ++ ds))
+    (λ k h. elim (has_append (q.list ++ cs) (q.list ++ ds) k h) [ inl here ↦ here_first k here | inr there ↦ there_last k there ])
+    (λ k h. elim (has_append q.list (cs ++ ds) k h) [
+      | inl old ↦ has_left (q.list ++ cs) (q.list ++ ds) k (has_left q.list cs k old)
+      | inr new ↦ elim (has_append cs ds k new) [
+        | inl one ↦ has_left (q.list ++ cs) (q.list ++ ds) k (has_right q.list cs k one)
+        | inr two ↦ has_right (q.list ++ cs) (q.list ++ ds) k (has_right q.list ds k two)
+      ]
+    ])
+  where
+    here_first : (k : ProgramCircuit) → Has (q.list ++ cs) k → Has (q.list ++ (cs ++ ds)) k
+    here_first k h = elim (has_append q.list cs k h) [ inl old ↦ has_left q.list (cs ++ ds) k old | inr new ↦ has_right q.list (cs ++ ds) k (has_left cs ds k new) ]
 
--- and a search that takes in a queue of them goes on as if all had been offered
-pub advanced_first : (s : SearchParts) (q : QueueList) (cs : List ProgramCircuit) → s.queue.cap ≡ s.plan.cap → q ≡ queue_of s cs → advanced s q.list ≡ advanced s cs
-advanced_first s q cs cap is =
-    let same : offered_to s.queue q.list ≡ offered_to s.queue cs = (λ i. offered_to s.queue (is i).list) ∙ (λ i. offered_to s.queue (firsts (sym cap i) cs)) ∙ offered_first s.queue cs in
-    λ i. record s { queue = same i; best = earliest s.best (same i).list }
+    there_last : (k : ProgramCircuit) → Has (q.list ++ ds) k → Has (q.list ++ (cs ++ ds)) k
+    there_last k h = elim (has_append q.list ds k h) [ inl old ↦ has_left q.list (cs ++ ds) k old | inr new ↦ has_right q.list (cs ++ ds) k (has_right cs ds k new) ]
 
 -- the new children of some and of others
 children_of_both : (s : SearchParts) (cs ds : List ProgramCircuit) → new_children s (cs ++ ds) ≡ new_children s cs ++ new_children s ds
@@ -66,22 +69,18 @@ circuit_at vs n v c inside is same =
 
 module _ (r : RoundParts) where
   -- no number
-  pub gathered_none : (q : QueueList) → q ≡ record { cap = r.search.plan.cap; list = [] } → q ≡ gathered r []
-  gathered_none q is = is ∙ (λ i. record { cap = r.search.plan.cap; list = sym (no_first r.search.plan.cap) i })
+  pub gathered_none : (q : QueueList) → IsQueue r.search.queue → q ≡ r.search.queue → q ≡ gathered r []
+  gathered_none q lawful is = is ∙ nothing_offered r.search.queue lawful
 
   -- it is a queue
-  pub gathered_lawful : (q : QueueList) (ds : List ℕ) → IsPlan r.search.plan → q ≡ gathered r ds → IsQueue q
-  gathered_lawful q ds lawful is = subst IsQueue (sym is) (record {
-    some = lawful.some_held;
-    few = lawful.few_held;
-    ordered = first_twice program_cmp_total program_cmp_exact r.search.plan.cap (new_children r.search (numbered r.batch ds));
-  })
+  pub gathered_lawful : (q : QueueList) (ds : List ℕ) → IsQueue r.search.queue → q ≡ gathered r ds → IsQueue q
+  gathered_lawful q ds lawful is = subst IsQueue (sym is) (offered_lawful r.search.queue (new_children r.search (numbered r.batch ds)) lawful)
 
   -- some numbers and others
   gathered_on : (q : QueueList) (ds es : List ℕ) → q ≡ gathered r ds → offered_to q (new_children r.search (numbered r.batch es)) ≡ gathered r (ds ++ es)
   gathered_on q ds es is =
-      offered_on (record { cap = r.search.plan.cap; list = [] }) q (new_children r.search (numbered r.batch ds)) (new_children r.search (numbered r.batch es)) is
-      ∙ ap (queue_of r.search) (sym (children_of_both r.search (numbered r.batch ds) (numbered r.batch es)) ∙ ap (new_children r.search) (sym (flat_map-append (λ d. take 1 (drop d r.batch)) ds es)))
+      offered_on r.search.queue q (new_children r.search (numbered r.batch ds)) (new_children r.search (numbered r.batch es)) is
+      ∙ ap (offered_to r.search.queue) (sym (children_of_both r.search (numbered r.batch ds) (numbered r.batch es)) ∙ ap (new_children r.search) (sym (flat_map-append (λ d. take 1 (drop d r.batch)) ds es)))
 
   -- one more
   pub gathered_more : (q new : QueueList) (ds : List ℕ) (n : ℕ) (c : ProgramCircuit) → n < length r.batch → c ≡ get_or r.batch n c → q ≡ gathered r ds → new ≡ offered_to q (filter (is_new r.search.seen r.search.most) (children_by_table r.search.rules c)) → new ≡ gathered r (ds ++ n ∷ [])
@@ -94,7 +93,7 @@ module _ (r : RoundParts) where
   -- one that is nobody's
   gathered_past : (ds : List ℕ) (n : ℕ) → length r.batch ≤ n → gathered r (ds ++ n ∷ []) ≡ gathered r ds
   gathered_past ds n past =
-      ap (λ cs. queue_of r.search (new_children r.search cs))
+      ap (λ cs. offered_to r.search.queue (new_children r.search cs))
       (flat_map-append (λ d. take 1 (drop d r.batch)) ds (n ∷ []) ∙ ap (λ cs. numbered r.batch ds ++ cs) (numbered_past r.batch n past) ∙ append-nil (numbered r.batch ds))
 
   -- a draw that gives a number
@@ -114,15 +113,14 @@ module _ (r : RoundParts) where
   gathered_by_both u v w one others all is first second merged =
       let a = subst (λ x. IfOk x (IsGathered r u)) merged.first_is first in
       let b = subst (λ x. IfOk x (IsGathered r v)) merged.second_is second in
-      let cap = r.search.plan.cap in
       let cs = new_children r.search (numbered r.batch u.drawn) in
       let ds = new_children r.search (numbered r.batch v.drawn) in
       record {
         ended = ap (λ x. x.ended) is ∙ ap (λ x. x || v.ended) a.ended;
         all = merged.all_is
             ∙ (λ i. record { cap = (a.all i).cap; list = firsts (a.all i).cap ((a.all i).list ++ (b.all i).list) })
-            ∙ (λ i. record { cap = cap; list = first_of_both cap cs ds i })
-            ∙ ap (queue_of r.search) (sym (children_of_both r.search (numbered r.batch u.drawn) (numbered r.batch v.drawn)) ∙ ap (new_children r.search) (sym (flat_map-append (λ d. take 1 (drop d r.batch)) u.drawn v.drawn)))
+            ∙ (λ i. record { cap = r.search.queue.cap; list = offered_to_both r.search.queue cs ds i })
+            ∙ ap (offered_to r.search.queue) (sym (children_of_both r.search (numbered r.batch u.drawn) (numbered r.batch v.drawn)) ∙ ap (new_children r.search) (sym (flat_map-append (λ d. take 1 (drop d r.batch)) u.drawn v.drawn)))
             ∙ (λ i. gathered r (sym is i).drawn);
       }
 
@@ -139,7 +137,7 @@ module _ (r : RoundParts) where
       has_flat_map (λ d. take 1 (drop d r.batch)) ds found.0 k (contains_has ds found.0 (each found.0 found.1)) here
 
   -- all that was drawn, where each number was
-  pub gathered_all : (q : QueueList) (v : View) → q ≡ gathered r v.drawn → ((n : ℕ) → n < length r.batch → draws n v ≡ 1) → q ≡ queue_of r.search (new_children r.search r.batch)
+  pub gathered_all : (q : QueueList) (v : View) → q ≡ gathered r v.drawn → ((n : ℕ) → n < length r.batch → draws n v ≡ 1) → q ≡ offered_to r.search.queue (new_children r.search r.batch)
   gathered_all q v is drawn =
       let s = r.search in
       let next = children_by_table s.rules in
@@ -151,10 +149,7 @@ module _ (r : RoundParts) where
       let kept = filter_has test k (flat_map next cs) there in
       let found = flat_map_has next cs k kept.0 in
       has_filter test k (flat_map next ds) (has_flat_map next ds found.0 k (passes found.0 found.1) found.2) kept.1) in
-      is
-      ∙ (λ i. record {
-        cap = s.plan.cap;
-        list = first_same program_cmp_total program_cmp_exact s.plan.cap (new_children s (numbered r.batch v.drawn)) (new_children s r.batch)
-            (moved (numbered r.batch v.drawn) r.batch (batch_has v.drawn))
-            (moved r.batch (numbered r.batch v.drawn) (λ c. has_batch v.drawn c each)) i;
-      })
+      let same = first_same program_cmp_total program_cmp_exact s.queue.cap (new_children s (numbered r.batch v.drawn)) (new_children s r.batch)
+      (moved (numbered r.batch v.drawn) r.batch (batch_has v.drawn))
+      (moved r.batch (numbered r.batch v.drawn) (λ c. has_batch v.drawn c each)) in
+      is ∙ (λ i. record { cap = s.queue.cap; list = first_left program_cmp s.queue.cap s.queue.list (new_children s (numbered r.batch v.drawn)) (new_children s r.batch) same i })

@@ -5,7 +5,7 @@ use Rattle.qz_circ.specs.ProgramCircuits.{ProgramCircuit}
 use Rattle.qz_circ.specs.Queue.{QueueList, firsts}
 use Rattle.qz_seats.specs.declared.view.View.{View}
 use Rattle.qz_seats.specs.Parts.{PassParts, SeatsParts, IsOf}
-use Rattle.qz_search.specs.Offers.{AreFit}
+use Rattle.qz_search.specs.Offers.{AreFit, offered_to}
 use Rattle.qz_search.specs.Rounds.{SearchParts, new_children}
 
 -- a search in a round, the circuits that the round took, and the table from which their numbers are drawn
@@ -23,15 +23,11 @@ pub record IsRound (r : RoundParts) : Type 0 where
 abbrev pub numbered : List ProgramCircuit → List ℕ → List ProgramCircuit
 numbered batch ds = flat_map (λ d. take 1 (drop d batch)) ds
 
--- a queue of these circuits, which holds as many as that of the search
-abbrev pub queue_of : SearchParts → List ProgramCircuit → QueueList
-queue_of s cs = record { cap = s.plan.cap; list = firsts s.plan.cap cs }
-
--- the new children of the circuits with these numbers
+-- the queue of the search, to which the new children of the circuits with these numbers were offered
 abbrev pub gathered : RoundParts → List ℕ → QueueList
-gathered r ds = queue_of r.search (new_children r.search (numbered r.batch ds))
+gathered r ds = offered_to r.search.queue (new_children r.search (numbered r.batch ds))
 
--- no number is left to draw, and the queue has the new children of the circuits that were drawn
+-- no number is left to draw, and to the queue were offered the new children of the circuits that were drawn
 pub record IsGathered (r : RoundParts) (v : View) (q : QueueList) : Type 0 where
   pub ended : v.ended ≡ true
   pub all : q ≡ gathered r v.drawn

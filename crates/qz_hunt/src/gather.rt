@@ -75,7 +75,7 @@ impl Round {
         ensures rest { pass.new.view ≡ record pass.old.view { drawn = pass.new.view.drawn; ended = pass.new.view.ended } }
         ensures gathered { IfOk result (IsGathered self.now pass.new.view) }
     {
-        let mut queue = Queue::new(self.alloc, self.search.cap())?;
+        let mut queue = self.search.queue()?;
         let mut neighbours = Neighbours::of(self.alloc, &[])?;
         for _ in rt.forever() {
             if !self.turn(pass, &mut neighbours, &mut queue, worker, stile)? {

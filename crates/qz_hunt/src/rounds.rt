@@ -32,7 +32,6 @@ fn next_round<R: Threads + Wait + Sync, T: Turnstile>(
     requires few_workers { workers ≤ 16 }
     requires fit { AreFit (circuits batch.items) }
     requires few { length batch.items ≤ 64 }
-    requires cap { search.queue.cap ≡ search.plan.cap }
     ensures { IfOk result (λ next. next ≡ advanced search (new_children search (circuits batch.items))) }
 {
     let limit = batch.len() as u64;
@@ -46,7 +45,7 @@ fn next_round<R: Threads + Wait + Sync, T: Turnstile>(
     let (pass, found) = crew(rt, &round, pass, 0, stile);
     round.seats.close(pass);
     let mut search = round.search;
-    search.merge(alloc, found?)?;
+    search.end_round(alloc, found?)?;
     Ok(search)
 }
 

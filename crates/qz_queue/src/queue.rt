@@ -67,6 +67,25 @@ fn take_front(list: &mut Vec<Vec<Inst>>, room: Vec<Vec<Inst>>, n: usize) -> Vec<
     taken
 }
 
+// Copies of circuits, in a vector that has room for this many.
+fn copies_of(alloc: Global, list: &[Vec<Inst>], most: usize) -> Result<Vec<Vec<Inst>>, Memory>
+    requires within { length list.now ≤ most }
+    ensures same { IfOk result (λ copies. circuits copies.items ≡ circuits list.now) }
+    ensures room { IfOk result (λ copies. most ≤ vec_capacity copies) }
+{
+    let Ok(room) = Vec::with_capacity(alloc, most) else {
+        return Err(Memory);
+    };
+    let mut copies = room;
+    for c in list {
+        let Ok(copy) = Vec::from_slice(alloc, c) else {
+            return Err(Memory);
+        };
+        copies.push_reserved(copy);
+    }
+    Ok(copies)
+}
+
 impl Queue {
     /// An empty queue that holds at most this many circuits. Room for them all is made here.
     pub fn new(alloc: Global, cap: u64) -> Result<Queue, Memory>
@@ -109,6 +128,19 @@ impl Queue {
             return Err(Memory);
         };
         Ok(take_front(&mut self.list, room, n))
+    }
+
+    /// A queue of its own with the same circuits.
+    pub fn copy(&self) -> Result<Queue, Memory>
+        ensures same { IfOk result (λ q. q ≡ self.now) }
+        ensures lawful { IsQueue self.now }
+    {
+        let list = copies_of(self.alloc, &self.list, self.cap)?;
+        Ok(Queue {
+            alloc: self.alloc,
+            cap: self.cap,
+            list,
+        })
     }
 
     /// Takes in all circuits of another queue with the same greatest number. It takes no memory.

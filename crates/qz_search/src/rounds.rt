@@ -6,7 +6,7 @@ ghost use Rattle.qz_circ.specs.Circuit.{Circuit};
 ghost use Rattle.qz_circ.specs.ProgramCircuits.{ProgramCircuit, IsProgramGate, EquivalentProgramCircuits, cost, program_cmp};
 ghost use Rattle.qz_circ.specs.Queue.{IsQueue};
 ghost use Rattle.qz_circ.specs.Replacement.{children};
-ghost use Rattle.qz_circ.specs.Search.{IsPlan, best_found, IsComplete, IsReached};
+ghost use Rattle.qz_circ.specs.Search.{earliest, best_found, IsComplete, IsReached};
 ghost use Rattle.qz_queue.specs.Circuits.{circuits};
 ghost use Rattle.qz_search.specs.Offers.{is_new, offered_to, AreFit};
 ghost use Rattle.qz_search.specs.Tables.{children_by_table};
@@ -69,12 +69,12 @@ impl Rounds {
         })
     }
 
-    /// How many circuits its queue holds at most, from 1 to 500.
-    pub fn cap(&self) -> u64
-        ensures value { result ≡ self.now.plan.cap }
-        ensures lawful { IsPlan self.now.plan }
+    /// A copy of its queue.
+    pub fn queue(&self) -> Result<Queue, Memory>
+        ensures same { IfOk result (λ q. q ≡ self.now.queue) }
+        ensures lawful { IsQueue self.now.queue }
     {
-        self.plan.cap()
+        self.queue.copy()
     }
 
     /// Begins a round: takes the circuits whose children it offers. None where no round is left or the queue is empty, and the best
@@ -123,12 +123,11 @@ impl Rounds {
         Ok(())
     }
 
-    /// Ends a round with the circuits of another queue, into which its children were gathered.
-    pub fn merge(&mut self, alloc: Global, found: Queue) -> Result<(), Memory>
-        requires { self.old.queue.cap ≡ found.cap }
-        ensures { OnOk result (self.new ≡ advanced self.old found.list) }
+    /// Ends a round with a queue to which its children were offered.
+    pub fn end_round(&mut self, alloc: Global, queue: Queue) -> Result<(), Memory>
+        ensures { OnOk result (self.new ≡ record self.old { queue = queue; best = earliest self.old.best queue.list }) }
     {
-        self.queue.merge(found);
+        self.queue = queue;
         self.best = earlier(alloc, &self.best, &self.queue)?;
         Ok(())
     }

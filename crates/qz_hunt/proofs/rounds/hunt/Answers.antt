@@ -10,9 +10,6 @@ next_round-requires-clause-fit g c = λ κs outlives. (in_round c.args.rules.now
 pub next_round-requires-clause-few : goal.next_round-requires-clause-few
 next_round-requires-clause-few g c = λ κs outlives. omega (arith, (in_round c.args.rules.now.classes c.args.c.now c.loop-rounds.rounds.plan c.take_batch.new.self c.in_ok-batch.field-0 c.in-Some.batch (c.in_ok-batch.ensures.found c.args.rules.now.classes c.args.c.now c.loop-rounds.invariant.0) c.in-Some.is).few, length-map c.in-Some.batch.items (λ v. v.items))
 
-pub next_round-requires-clause-cap : goal.next_round-requires-clause-cap
-next_round-requires-clause-cap g c = λ κs outlives. ap (λ q. q.cap) (in_round c.args.rules.now.classes c.args.c.now c.loop-rounds.rounds.plan c.take_batch.new.self c.in_ok-batch.field-0 c.in-Some.batch (c.in_ok-batch.ensures.found c.args.rules.now.classes c.args.c.now c.loop-rounds.invariant.0) c.in-Some.is).further.at.queue_is
-
 pub loop-rounds-preserved : goal.loop-rounds-preserved
 loop-rounds-preserved g c =
     let rules = c.args.rules.now.classes in

@@ -2,10 +2,10 @@ use Rattle.std.proofs.Common.{◌≡◌, ◌<◌, ℕ, length, ap, subst, ◌∙
 use Rattle.std.specs.Prelude.{IfOk}
 use Rattle.std.proofs.lemmas.List.{length-map}
 use Rattle.qz_queue.specs.Circuits.{circuits}
-use Rattle.qz_search.specs.Rounds.{new_children}
+use Rattle.qz_circ.specs.Search.{earliest}
 use Rattle.qz_seats.specs.Views.{draws}
 use Rattle.qz_hunt.specs.Gathered.{RoundParts, IsGathered}
-use Rattle.qz_hunt.proofs.GatherLemmas.{gathered_all, advanced_first}
+use Rattle.qz_hunt.proofs.GatherLemmas.{gathered_all}
 use Rattle.qz_hunt.proofs.rounds.next_round.Goals as goal
 
 pub returns : goal.returns
@@ -19,4 +19,5 @@ returns g c =
     let limit : view.terms.limit ≡ length batch =
     omega (arith, ap (λ t. t.limit) c.crew-pass.ensures.free.0.1, ap (λ t. t.limit) c.in_ok-seats.ensures.terms, c.len-limit.ensures, c.args.batch.ok.0, length-map c.args.batch.items (λ v. v.items)) in
     let drawn : (n : ℕ) → n < length batch → draws n view ≡ 1 = λ n inside. c.close.ensures.ended all.ended n (omega (arith, inside, limit)) in
-    c.in_ok-merge.ensures ∙ advanced_first search found (new_children search batch) c.requires.cap (gathered_all r found view all.all drawn)
+    let gathered = gathered_all r found view all.all drawn in
+    c.in_ok-end_round.ensures ∙ (λ i. record search { queue = gathered i; best = earliest search.best (gathered i).list })
