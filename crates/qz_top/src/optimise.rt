@@ -13,16 +13,21 @@ ghost use Rattle.qz_top.specs.Making.{EndsEarly, EndsUnread, IsOpened, AreRulesR
 ghost use Rattle.qz_top.specs.Optimise.{most_rule_bytes, status_of_rule_fault, status_of_unread_file, status_of_opening, Optimises, TellsFile, TakesRuleFile, TakesFileForRules};
 ghost use Rattle.qz_top.specs.Optimised.{IsFound, IsOptimised, IsOptimisedBy, WritesOptimised};
 ghost use Rattle.qz_top.specs.Status.{IsBeforeInput, WritesNothing};
+ghost use Rattle.qz_top.specs.Words.{AreWorkers};
 
 use crate::inputs::program_in;
 use crate::status::Status;
 use crate::words::limit_of;
 use crate::writing::{text_of, write_text};
 use qz_circ::{Inst, Memory, Program, RuleFault, Which};
+use qz_crew::Turnstile;
+use qz_hunt::hunt;
 use qz_io::{IoFault, Shelf, Sink, Source, Unread, read_file};
 use qz_rulefile::{Rules, read};
 use qz_search::{Plan, search};
 use std::alloc::Global;
+use std::sync::Wait;
+use std::thread::Threads;
 
 // How many bytes a rule file has at most.
 const LIMIT: u64 = 134_217_728;
@@ -107,19 +112,49 @@ fn rules_in<F: Shelf>(alloc: Global, name: &str, shelf: &mut F) -> Result<Rules,
 }
 
 // The circuit that the search by these rules and with this plan finds from a program's.
-fn found(alloc: Global, rules: &Rules, plan: Plan, program: &Program) -> Result<Vec<Inst>, Memory>
+pub(crate) fn found(
+    alloc: Global,
+    rules: &Rules,
+    plan: Plan,
+    program: &Program,
+) -> Result<Vec<Inst>, Memory>
     requires { Valid program.now }
     ensures { IfOk result (λ circuit. IsFound rules.now plan program.now circuit.items) }
 {
     search(alloc, rules, program.gates(), plan)
 }
 
-// The text of the program with such a circuit as its gates, unless memory runs out.
-fn optimised(alloc: Global, rules: &Rules, plan: Plan, program: Program) -> Result<Vec<u8>, Status>
-    requires { Valid program }
+// The same by so many workers.
+pub(crate) fn found_by<R: Threads + Wait + Sync, T: Turnstile>(
+    rt: &R,
+    alloc: Global,
+    rules: &Rules,
+    plan: Plan,
+    program: &Program,
+    workers: u64,
+    stile: &T,
+) -> Result<Vec<Inst>, Memory>
+    requires valid { Valid program.now }
+    requires workers { AreWorkers workers }
+    ensures { IfOk result (λ circuit. IsFound rules.now plan program.now circuit.items) }
+{
+    hunt(rt, alloc, rules, program.gates(), plan, workers, stile)
+}
+
+// The text of the program with the circuit that is found as its gates, unless memory runs out.
+fn optimised<S: FnOnce(&Rules, Plan, &Program) -> Result<Vec<Inst>, Memory>>(
+    alloc: Global,
+    rules: &Rules,
+    plan: Plan,
+    program: Program,
+    find: S,
+) -> Result<Vec<u8>, Status>
+    requires valid { Valid program }
+    requires ready { (r p : _) → Valid p.now → S.pre find r plan p }
+    requires finds { (r p circuit : _) → S.post find r plan p circuit → IfOk circuit (λ c. IsFound r.now plan p.now c.items) }
     ensures { MatchResult result (λ text. IsOptimised rules.now plan program text.items) (λ status. status ≡ Status.Memory) }
 {
-    let Ok(circuit) = found(alloc, rules, plan, &program) else {
+    let Ok(circuit) = find(rules, plan, &program) else {
         return Err(Status::Memory);
     };
     let changed = program.with_gates(circuit);
@@ -127,12 +162,15 @@ fn optimised(alloc: Global, rules: &Rules, plan: Plan, program: Program) -> Resu
 }
 
 // Reads the input, and gives the text for the output; or the status that the command ends with before it writes.
-fn optimised_input<I: Source>(
+fn optimised_input<I: Source, S: FnOnce(&Rules, Plan, &Program) -> Result<Vec<Inst>, Memory>>(
     alloc: Global,
     rules: &Rules,
     plan: Plan,
     input: &mut I,
+    find: S,
 ) -> Result<Vec<u8>, Status>
+    requires ready { (r p : _) → Valid p.now → S.pre find r plan p }
+    requires finds { (r p circuit : _) → S.post find r plan p circuit → IfOk circuit (λ c. IsFound r.now plan p.now c.items) }
     ensures made { let seen = source_shown I.Source input.old input.new in
         MatchResult result (λ text. IsMadeOfInput (λ program. IsOptimised rules.now plan program text.items) seen) (λ status. EndsByInput status seen) }
     ensures at_end { OnOk result (IsAtEnd (I.left input.new)) }
@@ -141,19 +179,26 @@ fn optimised_input<I: Source>(
     ensures faults { I.faults input.old ≤ I.faults input.new }
 {
     match program_in(alloc, input) {
-        Ok(program) => optimised(alloc, rules, plan, program),
+        Ok(program) => optimised(alloc, rules, plan, program, find),
         Err(status) => Err(status),
     }
 }
 
 // Reads the rules and then the input, and gives the text for the output; or the status that the command ends with before it writes.
-fn optimised_by<I: Source, F: Shelf>(
+fn optimised_by<
+    I: Source,
+    F: Shelf,
+    S: FnOnce(&Rules, Plan, &Program) -> Result<Vec<Inst>, Memory>,
+>(
     alloc: Global,
     name: &str,
     plan: Plan,
     input: &mut I,
     shelf: &mut F,
+    find: S,
 ) -> Result<Vec<u8>, Status>
+    requires ready { (r p : _) → Valid p.now → S.pre find r plan p }
+    requires finds { (r p circuit : _) → S.post find r plan p circuit → IfOk circuit (λ c. IsFound r.now plan p.now c.items) }
     ensures made { let seen = source_shown I.Source input.old input.new in
         let storage = shelf_shown F.Shelf shelf.old shelf.new in
         MatchResult result (λ text. IsOptimisedBy name.now plan text.items seen storage) (λ status. EndsEarly (Optimises name.now plan) status seen storage) }
@@ -170,21 +215,29 @@ fn optimised_by<I: Source, F: Shelf>(
     ensures shelf_faults { F.faults shelf.old ≤ F.faults shelf.new }
 {
     match rules_in(alloc, name, shelf) {
-        Ok(rules) => optimised_input(alloc, &rules, plan, input),
+        Ok(rules) => optimised_input(alloc, &rules, plan, input, find),
         Err(status) => Err(status),
     }
 }
 
 // Reads the rules in the file with this name and then the input, each to its end, and writes the text of the input's program
 // with the circuit of the search as its gates.
-pub(crate) fn optimise<I: Source, F: Shelf, O: Sink>(
+pub(crate) fn optimise<
+    I: Source,
+    F: Shelf,
+    O: Sink,
+    S: FnOnce(&Rules, Plan, &Program) -> Result<Vec<Inst>, Memory>,
+>(
     alloc: Global,
     name: &str,
     plan: Plan,
     input: &mut I,
     shelf: &mut F,
     out: &mut O,
+    find: S,
 ) -> Status
+    requires ready { (r p : _) → Valid p.now → S.pre find r plan p }
+    requires finds { (r p circuit : _) → S.post find r plan p circuit → IfOk circuit (λ c. IsFound r.now plan p.now c.items) }
     ensures carried_out { IsCarriedOut (Optimises name.now plan) result
         (shown I.Source F.Shelf O.Sink input.old input.new shelf.old shelf.new out.old out.new) }
     ensures optimised { result ≡ Status.Ok → WritesOptimised name.now plan
@@ -204,7 +257,7 @@ pub(crate) fn optimise<I: Source, F: Shelf, O: Sink>(
     ensures faults { O.faults out.old ≤ O.faults out.new }
     ensures wants { O.wants out.old ≤ O.wants out.new }
 {
-    match optimised_by(alloc, name, plan, input, shelf) {
+    match optimised_by(alloc, name, plan, input, shelf, find) {
         Ok(text) => write_text(&text, out),
         Err(status) => status,
     }

@@ -1,84 +1,37 @@
 //! A command with as many workers as its words say.
-ghost use Rattle.std.specs.Prelude.{◌≡◌, ◌≢◌, ℕ, Bool, true, ◌+◌, ◌<◌, ◌≤◌, ◌⊎◌, List, [], length, map, slice_index_or, string_bytes, Some, None, IfSome, Ok, Err};
+ghost use Rattle.std.specs.Prelude.{◌≡◌, ◌≢◌, ℕ, Bool, true, ◌+◌, ◌<◌, ◌≤◌, ◌⊎◌, List, [], length, map, slice_index_or, string_bytes, Some, None, IfSome, IfOk, Ok, Err};
 ghost use Rattle.std.specs.Io.KnownBytes.{IsAtEnd};
 ghost use Rattle.qz_circ.specs.Circuit.{Limits};
 ghost use Rattle.qz_circ.specs.declared.fault.Which.TheVariants.{InputBytes};
 ghost use Rattle.qz_circ.specs.Search.{PlanNumbers};
+ghost use Rattle.qz_circ.specs.ValidPrograms.{Valid};
 ghost use Rattle.qz_io.specs.Counts.{Rose};
 ghost use Rattle.qz_io.specs.Told.{TakesBytes};
 ghost use Rattle.qz_top.specs.Answer.{Answer, Given, shelf_shown, shown, IsCarriedOut};
 ghost use Rattle.qz_top.specs.FaultTexts.{status_text};
-ghost use Rattle.qz_top.specs.Generate.{WritesCompleteRules};
+ghost use Rattle.qz_top.specs.Generate.{AreMade, WritesCompleteRules};
 ghost use Rattle.qz_top.specs.Inputs.{most_input_bytes};
 ghost use Rattle.qz_top.specs.Optimise.{TellsFile, TakesRuleFile};
-ghost use Rattle.qz_top.specs.Optimised.{WritesOptimised};
+ghost use Rattle.qz_top.specs.Optimised.{IsFound, WritesOptimised};
 ghost use Rattle.qz_top.specs.Reports.{IsReportText, end_text};
 ghost use Rattle.qz_top.specs.Run.{status_of_words, CommandAnswers, WordsAnswer, CommandNeedsProgram, NeedsProgram, IsOfProgram, AsksOfProgram, IsForErr, Tells};
 ghost use Rattle.qz_top.specs.Status.{IsBeforeInput, WritesNothing};
-ghost use Rattle.qz_top.specs.Words.{IsLawfulCommand, workers_for, command_of};
+ghost use Rattle.qz_top.specs.Words.{AreWorkers, IsLawfulCommand, workers_for, command_of};
 
-use crate::generate::{rules_by, written};
+use crate::generate::rules_by;
+use crate::optimise::found_by;
 use crate::solo::{carry_out, run_solo};
 use crate::status::Status;
 use crate::telling::tell_end;
 use crate::words::{Command, WordFault, read_words};
-use qz_circ::Report;
+use qz_circ::{Bounds, Program};
 use qz_crew::Turnstile;
 use qz_io::{Shelf, Sink, Source};
+use qz_rulefile::Rules;
+use qz_search::Plan;
 use std::alloc::Global;
 use std::sync::Wait;
 use std::thread::Threads;
-
-// The same with the command's workers, where they have something to share; they tell the turnstile their moments.
-fn carry_out_by<I: Source, F: Shelf, O: Sink, T: Turnstile, R: Threads + Wait + Sync>(
-    rt: &R,
-    alloc: Global,
-    words: &[String],
-    command: Command,
-    input: &mut I,
-    shelf: &mut F,
-    out: &mut O,
-    stile: &T,
-) -> (Status, Option<Report>)
-    requires within { (k : ℕ) (plan : PlanNumbers) (workers : ℕ) → command ≡ Command.Optimise k plan workers → k < length words.now }
-    requires lawful { IsLawfulCommand command }
-    ensures carried_out { IsCarriedOut (CommandAnswers (map string_bytes words.now) command) result.0
-        (shown I.Source F.Shelf O.Sink input.old input.new shelf.old shelf.new out.old out.new) }
-    ensures rules { (b : Limits) (workers seed : ℕ) (report : Bool) → command ≡ Command.Generate b workers seed report → result.0 ≡ Status.Ok → WritesCompleteRules b (O.written out.old) (O.written out.new) }
-    ensures optimised { (k : ℕ) (plan : PlanNumbers) (workers : ℕ) → command ≡ Command.Optimise k plan workers → result.0 ≡ Status.Ok → WritesOptimised (slice_index_or (map string_bytes words.now) k []) plan
-        (shown I.Source F.Shelf O.Sink input.old input.new shelf.old shelf.new out.old out.new) }
-    ensures read_fault { result.0 ≡ Status.ReadFault → CommandNeedsProgram (map string_bytes words.now) command (shelf_shown F.Shelf shelf.old shelf.new) }
-    ensures at_end { IsOfProgram command → result.0 ≡ Status.Ok → IsAtEnd (I.left input.new) }
-    ensures taken { TakesBytes (I.left input.old) (I.left input.new) (λ n. n ≤ most_input_bytes + 1) }
-    ensures within { result.0 ≢ Status.Limit InputBytes → TakesBytes (I.left input.old) (I.left input.new) (λ n. n ≤ most_input_bytes) }
-    ensures unread { (input.new ≡ input.old) ⊎ CommandNeedsProgram (map string_bytes words.now) command (shelf_shown F.Shelf shelf.old shelf.new) }
-    ensures before { IsBeforeInput result.0 → input.new ≡ input.old }
-    ensures untouched { WritesNothing result.0 → out.new ≡ out.old }
-    ensures shelf_fault { result.0 ≡ Status.ShelfFault → (k : ℕ) × (plan : PlanNumbers) × (workers : ℕ) × (command ≡ Command.Optimise k plan workers) }
-    ensures unopened { ((k : ℕ) (plan : PlanNumbers) (workers : ℕ) → command ≢ Command.Optimise k plan workers) → shelf.new ≡ shelf.old }
-    ensures file_taken { (k : ℕ) (plan : PlanNumbers) (workers : ℕ) (file : List ℕ) → command ≡ Command.Optimise k plan workers → TellsFile (F.files shelf.old) (slice_index_or (map string_bytes words.now) k []) file
-        → TakesRuleFile file (F.rest shelf.old) (F.rest shelf.new) result.0 }
-    ensures file_at_end { (k : ℕ) (plan : PlanNumbers) (workers : ℕ) → command ≡ Command.Optimise k plan workers → result.0 ≡ Status.Ok → IsAtEnd (F.rest shelf.new) }
-    ensures files { F.files shelf.new ≡ F.files shelf.old }
-    ensures input_faults { I.faults input.old ≤ I.faults input.new }
-    ensures shelf_faults { F.faults shelf.old ≤ F.faults shelf.new }
-    ensures faults { O.faults out.old ≤ O.faults out.new }
-    ensures wants { O.wants out.old ≤ O.wants out.new }
-    ensures told { IsForErr command result.0 (end_text result.0 result.1) }
-{
-    match command {
-        Command::Generate {
-            bounds,
-            workers,
-            seed,
-            report,
-        } => {
-            let made = rules_by(rt, alloc, bounds, workers, seed, stile);
-            written(made, report, out)
-        }
-        command => carry_out(alloc, words, command, input, shelf, out),
-    }
-}
 
 // How many workers carry out a command.
 fn workers_for(command: &Command) -> u64
@@ -182,9 +135,16 @@ pub fn run<I: Source, F: Shelf, O: Sink, E: Sink, T: Turnstile, R: Threads + Wai
 {
     match command_of_several(words) {
         Some(command) => {
-            let (status, report) = carry_out_by(
-                rt, alloc, words, command, input, shelf, out, stile,
-            );
+            let workers = workers_for(&command);
+            let make = |bounds: Bounds, seed: u64|
+                requires { AreWorkers workers }
+                ensures { IfOk result (λ made. AreMade bounds seed made.0.items made.1) }
+            { rules_by(rt, alloc, bounds, workers, seed, stile) };
+            let find = |rules: &Rules, plan: Plan, program: &Program|
+                requires { Valid program.now × AreWorkers workers }
+                ensures { IfOk result (λ circuit. IsFound rules.now plan program.now circuit.items) }
+            { found_by(rt, alloc, rules, plan, program, workers, stile) };
+            let (status, report) = carry_out(alloc, words, command, input, shelf, out, make, find);
             tell_end(status, report, err);
             status
         }

@@ -1,31 +1,34 @@
 //! A command with one worker, from its words to what it writes.
-ghost use Rattle.std.specs.Prelude.{◌≡◌, ◌≢◌, ℕ, Bool, true, ◌+◌, ◌<◌, ◌≤◌, ◌⊎◌, List, [], length, map, slice_index_or, string_bytes};
+ghost use Rattle.std.specs.Prelude.{◌≡◌, ◌≢◌, ℕ, Bool, true, ◌+◌, ◌<◌, ◌≤◌, ◌⊎◌, List, [], length, map, slice_index_or, string_bytes, IfOk};
 ghost use Rattle.std.specs.Io.KnownBytes.{IsAtEnd};
 ghost use Rattle.qz_circ.specs.Circuit.{Limits};
 ghost use Rattle.qz_circ.specs.declared.fault.Which.TheVariants.{InputBytes};
 ghost use Rattle.qz_circ.specs.Search.{PlanNumbers};
+ghost use Rattle.qz_circ.specs.ValidPrograms.{Valid};
 ghost use Rattle.qz_io.specs.Counts.{Rose};
 ghost use Rattle.qz_io.specs.Told.{TakesBytes};
 ghost use Rattle.qz_top.specs.Answer.{Answer, Given, shelf_shown, shown, IsCarriedOut};
 ghost use Rattle.qz_top.specs.FaultTexts.{status_text};
-ghost use Rattle.qz_top.specs.Generate.{WritesCompleteRules};
+ghost use Rattle.qz_top.specs.Generate.{AreMade, WritesCompleteRules};
 ghost use Rattle.qz_top.specs.Inputs.{most_input_bytes};
 ghost use Rattle.qz_top.specs.Optimise.{TellsFile, TakesRuleFile};
-ghost use Rattle.qz_top.specs.Optimised.{WritesOptimised};
+ghost use Rattle.qz_top.specs.Optimised.{IsFound, WritesOptimised};
 ghost use Rattle.qz_top.specs.Reports.{IsReportText, end_text};
 ghost use Rattle.qz_top.specs.Run.{status_of_words, CommandAnswers, WordsAnswer, CommandNeedsProgram, NeedsProgram, IsOfProgram, AsksOfProgram, IsForErr, Tells};
 ghost use Rattle.qz_top.specs.Status.{IsBeforeInput, WritesNothing};
 ghost use Rattle.qz_top.specs.Words.{IsLawfulCommand, command_of};
 
 use crate::generate::{rules_of, written};
-use crate::optimise::optimise;
+use crate::optimise::{found, optimise};
 use crate::status::Status;
 use crate::telling::{tell, tell_end};
 use crate::tidy::tidy;
 use crate::trial::trial;
 use crate::words::{Command, WordFault, read_words, word};
-use qz_circ::Report;
+use qz_circ::{Bounds, Inst, Memory, Program, Report};
 use qz_io::{Shelf, Sink, Source};
+use qz_rulefile::Rules;
+use qz_search::Plan;
 use std::alloc::Global;
 
 // The status of words that are refused.
@@ -38,15 +41,27 @@ fn status_of_words(fault: WordFault) -> Status
     }
 }
 
-// Carries out a command, which may name some of the words, with one worker. Answers the report where it is to be told.
-pub(crate) fn carry_out<I: Source, F: Shelf, O: Sink>(
+// Carries out a command, which may name some of the words, with what makes the rules of some bounds and their report, and what finds the
+// circuit of a search. Answers the report where it is to be told.
+pub(crate) fn carry_out<
+    I: Source,
+    F: Shelf,
+    O: Sink,
+    G: FnOnce(Bounds, u64) -> Result<(Vec<u8>, Report), Memory>,
+    S: FnOnce(&Rules, Plan, &Program) -> Result<Vec<Inst>, Memory>,
+>(
     alloc: Global,
     words: &[String],
     command: Command,
     input: &mut I,
     shelf: &mut F,
     out: &mut O,
+    make: G,
+    find: S,
 ) -> (Status, Option<Report>)
+    requires makes { (b : Limits) (workers seed : ℕ) (report : Bool) → command ≡ Command.Generate b workers seed report → G.pre make b seed × ((made : _) → G.post make b seed made → IfOk made (λ m. AreMade b seed m.0.items m.1)) }
+    requires ready { (k : ℕ) (plan : PlanNumbers) (workers : ℕ) → command ≡ Command.Optimise k plan workers → (r p : _) → Valid p.now → S.pre find r plan p }
+    requires finds { (k : ℕ) (plan : PlanNumbers) (workers : ℕ) → command ≡ Command.Optimise k plan workers → (r p circuit : _) → S.post find r plan p circuit → IfOk circuit (λ c. IsFound r.now plan p.now c.items) }
     requires within { (k : ℕ) (plan : PlanNumbers) (workers : ℕ) → command ≡ Command.Optimise k plan workers → k < length words.now }
     requires lawful { IsLawfulCommand command }
     ensures carried_out { IsCarriedOut (CommandAnswers (map string_bytes words.now) command) result.0
@@ -80,12 +95,12 @@ pub(crate) fn carry_out<I: Source, F: Shelf, O: Sink>(
             report,
             ..
         } => {
-            let made = rules_of(alloc, bounds, seed);
+            let made = make(bounds, seed);
             written(made, report, out)
         }
         Command::Tidy => (tidy(alloc, input, out), None),
         Command::Optimise { rules, plan, .. } => {
-            let status = optimise(alloc, word(words, rules), plan, input, shelf, out);
+            let status = optimise(alloc, word(words, rules), plan, input, shelf, out, find);
             (status, None)
         }
         Command::Trial {
@@ -164,7 +179,12 @@ pub fn run_solo<I: Source, F: Shelf, O: Sink, E: Sink>(
 {
     match read_words(words) {
         Ok(command) => {
-            let (status, report) = carry_out(alloc, words, command, input, shelf, out);
+            let make = |bounds: Bounds, seed: u64| rules_of(alloc, bounds, seed);
+            let find = |rules: &Rules, plan: Plan, program: &Program|
+                requires { Valid program.now }
+                ensures { IfOk result (λ circuit. IsFound rules.now plan program.now circuit.items) }
+            { found(alloc, rules, plan, program) };
+            let (status, report) = carry_out(alloc, words, command, input, shelf, out, make, find);
             tell_end(status, report, err);
             status
         }

@@ -12,15 +12,15 @@ use Rattle.qz_top.proofs.solo.carry_out.Goals as goal
 pub returns-in-Generate-clause-carried_out : goal.returns-in-Generate-clause-carried_out
 returns-in-Generate-clause-carried_out g c =
     rw c.in-Generate.is (c.written.ensures.carried_out _ c.in-Generate.seed (source_shown g.I.Source c.args.input.now c.args.input.now)
-    (shelf_shown g.F.Shelf c.args.shelf.now c.args.shelf.now) c.rules_of-made.ensures refl refl)
+    (shelf_shown g.F.Shelf c.args.shelf.now c.args.shelf.now) ((c.requires.makes _ _ c.in-Generate.seed _ c.in-Generate.is).1 _ c.make-made.ensures) refl refl)
 
 pub returns-in-Generate-clause-told : goal.returns-in-Generate-clause-told
 returns-in-Generate-clause-told g c =
-    rw c.in-Generate.is (record { done = c.written.ensures.report _ c.in-Generate.seed c.rules_of-made.ensures; not_done = λ n. ap (end_text c.written.result.0) (c.written.ensures.no_report n) })
+    rw c.in-Generate.is (record { done = c.written.ensures.report _ c.in-Generate.seed ((c.requires.makes _ _ c.in-Generate.seed _ c.in-Generate.is).1 _ c.make-made.ensures); not_done = λ n. ap (end_text c.written.result.0) (c.written.ensures.no_report n) })
 
 pub returns-in-Generate-clause-rules : goal.returns-in-Generate-clause-rules
 returns-in-Generate-clause-rules g c = λ b workers seed report is done.
-    same_rules _ b _ workers _ seed _ report _ _ (sym c.in-Generate.is ∙ is) (c.written.ensures.rules _ c.in-Generate.seed c.rules_of-made.ensures done)
+    same_rules _ b _ workers _ seed _ report _ _ (sym c.in-Generate.is ∙ is) (c.written.ensures.rules _ c.in-Generate.seed ((c.requires.makes _ _ c.in-Generate.seed _ c.in-Generate.is).1 _ c.make-made.ensures) done)
 
 pub returns-in-Tidy-clause-told : goal.returns-in-Tidy-clause-told
 returns-in-Tidy-clause-told g c = rw c.in-Tidy.is (status_for_err Tidy (λ text e. e) c.tidy.result)
@@ -78,3 +78,6 @@ returns-in-Optimise-clause-read_fault g c = λ e.
 pub returns-in-Optimise-clause-file_taken : goal.returns-in-Optimise-clause-file_taken
 returns-in-Optimise-clause-file_taken g c = λ k plan workers file is tells.
     c.optimise-status.ensures.file_taken file (file_by_name (map string_bytes c.args.words.now) c.args.command c.in-Optimise.rules c.in-Optimise.plan _ c.word.result.now c.in-Optimise.is c.word.ensures k plan workers _ file is tells)
+
+pub optimise-status-requires-clause-finds : goal.optimise-status-requires-clause-finds
+optimise-status-requires-clause-finds g c = c.requires.finds _ _ _ c.in-Optimise.is
