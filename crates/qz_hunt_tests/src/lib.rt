@@ -1,4 +1,4 @@
-//! Tests of the search by several workers.
+//! Tests of `optimise` with several workers.
 #![tactic(auto)]
 
 #[cfg(test)]

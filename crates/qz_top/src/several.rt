@@ -65,8 +65,8 @@ fn command_of_several(words: &[String]) -> Option<Command>
 
 /// Carries out the command that the words ask for, with as many workers as they say, and then tells the error stream as `run_solo` does.
 /// What it answers and writes is the same for every number of workers and every turnstile, and however the steps of the workers fall;
-/// it waits for its workers, which work one after another where no thread can be made. Several workers share a generation and tell the
-/// turnstile their moments. All else is done as `run_solo` does it.
+/// it waits for its workers, which work one after another where no thread can be made. Several workers share a generation, or the rounds of a
+/// search, and tell the turnstile their moments. All else is done as `run_solo` does it.
 pub fn run<I: Source, F: Shelf, O: Sink, E: Sink, T: Turnstile, R: Threads + Wait + Sync>(
     rt: &R,
     alloc: Global,
