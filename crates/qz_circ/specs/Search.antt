@@ -13,14 +13,30 @@ pub record PlanNumbers : Type 0 where
   pub cap : ℕ
   pub slack : ℕ
 
+-- the most circuits that a round takes
+abbrev pub most_taken : ℕ
+most_taken = 64
+
+-- the most circuits that the queue holds
+abbrev pub most_held : ℕ
+most_held = 500
+
+-- the most circuits that all rounds together take
+abbrev pub most_taken_in_all : ℕ
+most_taken_in_all = 4096
+
+-- the most gates that a child may have more than the best circuit
+abbrev pub most_slack : ℕ
+most_slack = 4
+
 -- the numbers are within the limits
 pub record IsPlan (p : PlanNumbers) : Type 0 where
   pub some_taken : 1 ≤ p.batch
-  pub few_taken : p.batch ≤ 64
+  pub few_taken : p.batch ≤ most_taken
   pub some_held : 1 ≤ p.cap
-  pub few_held : p.cap ≤ 500
-  pub few_rounds : p.rounds * p.batch ≤ 4096
-  pub near : p.slack ≤ 4
+  pub few_held : p.cap ≤ most_held
+  pub few_rounds : p.rounds * p.batch ≤ most_taken_in_all
+  pub near : p.slack ≤ most_slack
 
 -- the circuits that were taken, those that wait in the queue, and the best one so far
 pub record SearchState : Type 0 where

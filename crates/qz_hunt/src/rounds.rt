@@ -4,10 +4,11 @@ ghost use Rattle.std.specs.List.{AllByRecursion};
 ghost use Rattle.std.specs.Ordering.{is_lt};
 ghost use Rattle.qz_circ.specs.ProgramCircuits.{ProgramCircuit, IsProgramGate, EquivalentProgramCircuits, cost, program_cmp};
 ghost use Rattle.qz_circ.specs.Replacement.{children};
-ghost use Rattle.qz_circ.specs.Search.{best_found, IsComplete, IsReached};
+ghost use Rattle.qz_circ.specs.Search.{best_found, IsComplete, IsReached, most_taken};
 ghost use Rattle.qz_queue.specs.Circuits.{circuits};
 ghost use Rattle.qz_search.specs.Offers.{AreFit};
 ghost use Rattle.qz_search.specs.Rounds.{new_children, advanced};
+ghost use Rattle.qz_circ.specs.ProgramLimits.{most_qubits, most_gates};
 
 use crate::crew::crew;
 use crate::gather::Round;
@@ -31,7 +32,7 @@ fn next_round<R: Threads + Wait + Sync, T: Turnstile>(
     requires some_worker { 1 ≤ workers }
     requires few_workers { workers ≤ 16 }
     requires fit { AreFit (circuits batch.items) }
-    requires few { length batch.items ≤ 64 }
+    requires few { length batch.items ≤ most_taken }
     ensures { IfOk result (λ next. next ≡ advanced search (new_children search (circuits batch.items))) }
 {
     let limit = batch.len() as u64;
@@ -64,12 +65,12 @@ pub fn hunt<R: Threads + Wait + Sync, T: Turnstile>(
 ) -> Result<Vec<Inst>, Memory>
     requires some_worker { 1 ≤ workers }
     requires few_workers { workers ≤ 16 }
-    requires few { length c.now ≤ 20000 }
-    requires gates { AllByRecursion (IsProgramGate 64) c.now }
+    requires few { length c.now ≤ most_gates }
+    requires gates { AllByRecursion (IsProgramGate most_qubits) c.now }
     ensures best { IfOk result (λ d. d.items ≡ best_found (children rules.now.classes) plan c.now) }
     ensures cheap { IfOk result (λ d. length d.items ≤ length c.now) }
-    ensures lawful { (q : ℕ) → q ≤ 64 → AllByRecursion (IsProgramGate q) c.now → IfOk result (λ d. AllByRecursion (IsProgramGate q) d.items) }
-    ensures equivalent { (q : ℕ) → q ≤ 64 → AllByRecursion (IsProgramGate q) c.now → IfOk result (λ d. EquivalentProgramCircuits q c.now d.items) }
+    ensures lawful { (q : ℕ) → q ≤ most_qubits → AllByRecursion (IsProgramGate q) c.now → IfOk result (λ d. AllByRecursion (IsProgramGate q) d.items) }
+    ensures equivalent { (q : ℕ) → q ≤ most_qubits → AllByRecursion (IsProgramGate q) c.now → IfOk result (λ d. EquivalentProgramCircuits q c.now d.items) }
     ensures complete { IsComplete (children rules.now.classes) plan c.now → IfOk result (λ d. (x : ProgramCircuit) → IsReached (children rules.now.classes) (cost d.items + plan.slack) c.now x → is_lt (program_cmp x d.items) ≡ false) }
 {
     let mut rounds = Rounds::begin(alloc, rules, c, plan)?;

@@ -5,12 +5,13 @@ ghost use Rattle.qz_circ.specs.ProgramCircuits.{ProgramCircuit, IsProgramGate};
 ghost use Rattle.qz_circ.specs.Gathering.{marked, gathers, is_on};
 ghost use Rattle.qz_match.specs.Flags.{AreFlagsOf, is_flagged, Passes};
 ghost use Rattle.qz_match.specs.Starts.{rises};
+ghost use Rattle.qz_circ.specs.ProgramLimits.{most_qubits};
 
 use qz_circ::Inst;
 
 // A flag of one of the gate's qubits is set.
 fn meets(flags: &[bool; 64], g: Inst) -> bool
-    requires { IsProgramGate 64 g }
+    requires { IsProgramGate most_qubits g }
     ensures { result ≡ is_flagged flags.now g }
 {
     match g {
@@ -21,7 +22,7 @@ fn meets(flags: &[bool; 64], g: Inst) -> bool
 
 // Sets the flags of the gate's qubits.
 fn mark(flags: &mut [bool; 64], g: Inst)
-    requires { IsProgramGate 64 g }
+    requires { IsProgramGate most_qubits g }
     ensures { (w : ℕ) → slice_index_or flags.new w false ≡ (if is_on w g then true else slice_index_or flags.old w false) }
 {
     match g {
@@ -37,7 +38,7 @@ fn mark(flags: &mut [bool; 64], g: Inst)
 
 // A selected gate: it fails where the gate shares a qubit with one that comes after.
 fn pass_selected(g: Inst, chosen: &mut [bool; 64], after: &[bool; 64]) -> bool
-    requires { IsProgramGate 64 g }
+    requires { IsProgramGate most_qubits g }
     ensures { (xs ys : ProgramCircuit) → AreFlagsOf chosen.old xs → AreFlagsOf after.now ys → Passes true g xs ys chosen.new after.now result }
 {
     if meets(after, g) {
@@ -49,7 +50,7 @@ fn pass_selected(g: Inst, chosen: &mut [bool; 64], after: &[bool; 64]) -> bool
 
 // Another gate, which comes after where it shares a qubit with a selected gate or with one that comes after.
 fn pass_other(g: Inst, chosen: &[bool; 64], after: &mut [bool; 64])
-    requires { IsProgramGate 64 g }
+    requires { IsProgramGate most_qubits g }
     ensures { (xs ys : ProgramCircuit) → AreFlagsOf chosen.now xs → AreFlagsOf after.old ys → Passes false g xs ys chosen.now after.new true }
 {
     if is_late(g, chosen, after) {
@@ -59,7 +60,7 @@ fn pass_other(g: Inst, chosen: &[bool; 64], after: &mut [bool; 64])
 
 // The gate shares a qubit with a selected gate or with one that comes after.
 fn is_late(g: Inst, chosen: &[bool; 64], after: &[bool; 64]) -> bool
-    requires { IsProgramGate 64 g }
+    requires { IsProgramGate most_qubits g }
     ensures { result ≡ (is_flagged chosen.now g || is_flagged after.now g) }
 {
     meets(chosen, g) || meets(after, g)
@@ -67,7 +68,7 @@ fn is_late(g: Inst, chosen: &[bool; 64], after: &[bool; 64]) -> bool
 
 // The next gate, and whether gathering goes on.
 fn pass(selected: bool, g: Inst, chosen: &mut [bool; 64], after: &mut [bool; 64]) -> bool
-    requires { IsProgramGate 64 g }
+    requires { IsProgramGate most_qubits g }
     ensures { (xs ys : ProgramCircuit) → AreFlagsOf chosen.old xs → AreFlagsOf after.old ys → Passes selected g xs ys chosen.new after.new result }
 {
     if selected {
@@ -97,7 +98,7 @@ fn unmarked() -> [bool; 64]
 pub(crate) fn gather_at(c: &[Inst], found: &[usize; 6], count: usize) -> bool
     requires short { count ≤ 6 }
     requires some { 0 < count }
-    requires lawful { AllByRecursion (IsProgramGate 64) c.now }
+    requires lawful { AllByRecursion (IsProgramGate most_qubits) c.now }
     requires rising { rises 0 (length c.now) (take count found.now) ≡ true }
     ensures { result ≡ gathers [] [] (marked 0 (take count found.now) c.now) }
 {

@@ -3,6 +3,7 @@ ghost use Rattle.std.specs.Prelude.{◌≡◌, ◌<◌, ◌/◌, ◌==◌, ℕ, 
 ghost use Rattle.std.specs.List.{AllByRecursion, list_any};
 ghost use Rattle.qz_circ.specs.ProgramCircuits.{IsProgramGate};
 ghost use Rattle.qz_match.specs.Kinds.{is_shown, is_lacked, AreShown, ShowsMore};
+ghost use Rattle.qz_circ.specs.ProgramLimits.{most_qubits};
 
 use qz_circ::{Expr, Inst, Op};
 
@@ -47,7 +48,7 @@ fn with_rotation(kinds: Kinds, t: u8, k: u16) -> Kinds
 
 // The kinds with that of a gate.
 fn with_gate(kinds: Kinds, g: Inst) -> Kinds
-    requires { IsProgramGate 64 g }
+    requires { IsProgramGate most_qubits g }
     ensures { ShowsMore kinds result g }
 {
     match g {
@@ -72,7 +73,7 @@ impl Kinds {
 
     // The kinds of a program's gates.
     pub(crate) fn of(c: &[Inst]) -> Kinds
-        requires { AllByRecursion (IsProgramGate 64) c.now }
+        requires { AllByRecursion (IsProgramGate most_qubits) c.now }
         ensures { AreShown c.now result }
     {
         let mut kinds = Kinds::none();

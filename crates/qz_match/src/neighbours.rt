@@ -6,6 +6,7 @@ ghost use Rattle.qz_circ.specs.Gathering.{qubits_of, is_on};
 ghost use Rattle.qz_circ.specs.Instances.{slot};
 ghost use Rattle.qz_match.specs.Kinds.{is_lacked};
 ghost use Rattle.qz_match.specs.Neighbours.{AreLinksOf, AreNeighboursOf, FindsPrevious, FindsNext, beside};
+ghost use Rattle.qz_circ.specs.ProgramLimits.{most_qubits};
 
 use crate::kinds::Kinds;
 use qz_circ::{Inst, Memory, Op};
@@ -39,7 +40,7 @@ impl Model for Neighbours {
 impl Neighbours {
     /// The links and kinds of a program of at most 20,004 gates on 64 qubits.
     pub fn of(alloc: Global, c: &[Inst]) -> Result<Neighbours, Memory>
-        requires lawful { AllByRecursion (IsProgramGate 64) c.now }
+        requires lawful { AllByRecursion (IsProgramGate most_qubits) c.now }
         requires short { length c.now ≤ 20004 }
         ensures { IfOk result (λ n. AreNeighboursOf c.now n) }
     {
@@ -53,7 +54,7 @@ impl Neighbours {
 
     /// The links and kinds of another program, in the memory of these. After an error they are of no program.
     pub fn renew(&mut self, c: &[Inst]) -> Result<(), Memory>
-        requires lawful { AllByRecursion (IsProgramGate 64) c.now }
+        requires lawful { AllByRecursion (IsProgramGate most_qubits) c.now }
         requires short { length c.now ≤ 20004 }
         ensures { OnOk result (AreNeighboursOf c.now self.new) }
     {
@@ -108,7 +109,7 @@ fn unknown() -> [Option<u16>; 64]
 
 // What stands for the qubits of a gate, by its operands.
 fn look_up(slots: &[Option<u16>; 64], g: Inst) -> [Option<u16>; 2]
-    requires { IsProgramGate 64 g }
+    requires { IsProgramGate most_qubits g }
     ensures { (o w : ℕ) → slice_get (qubits_of g) o ≡ Some w → slot result o ≡ slot slots.now w }
 {
     match g {
@@ -119,7 +120,7 @@ fn look_up(slots: &[Option<u16>; 64], g: Inst) -> [Option<u16>; 2]
 
 // The position of a gate comes to stand for its qubits.
 fn enter(slots: &mut [Option<u16>; 64], g: Inst, i: u16)
-    requires { IsProgramGate 64 g }
+    requires { IsProgramGate most_qubits g }
     ensures { (w : ℕ) → slot slots.new w ≡ (if is_on w g then Some i else slot slots.old w) }
 {
     match g {
@@ -136,7 +137,7 @@ fn enter(slots: &mut [Option<u16>; 64], g: Inst, i: u16)
 // The links of all gates to those before them.
 fn add_previous(links: &mut Vec<Link>, c: &[Inst]) -> Result<(), Memory>
     requires none { links.old.items ≡ [] }
-    requires lawful { AllByRecursion (IsProgramGate 64) c.now }
+    requires lawful { AllByRecursion (IsProgramGate most_qubits) c.now }
     requires short { length c.now ≤ 20004 }
     ensures size { OnOk result (length links.new.items ≡ length c.now) }
     ensures previous { OnOk result (FindsPrevious c.now (length c.now) links.new.items) }
@@ -166,7 +167,7 @@ fn set_link(link: &mut Link, next: [Option<u16>; 2])
 fn set_next(links: &mut [Link], c: &[Inst])
     requires size { length links.old ≡ length c.now }
     requires previous { FindsPrevious c.now (length c.now) links.old }
-    requires lawful { AllByRecursion (IsProgramGate 64) c.now }
+    requires lawful { AllByRecursion (IsProgramGate most_qubits) c.now }
     requires short { length c.now ≤ 20004 }
     ensures { AreLinksOf c.now links.new }
 {

@@ -8,6 +8,7 @@ ghost use Rattle.qz_circ.specs.Places.{all_places, places};
 ghost use Rattle.qz_match.specs.Neighbours.{AreLinksOf, AreNeighboursOf};
 ghost use Rattle.qz_match.specs.Walks.{IsWalk};
 ghost use Rattle.qz_match.specs.Starts.{may_have, is_alike, rises, tested, starting, AreOnly};
+ghost use Rattle.qz_circ.specs.ProgramLimits.{most_qubits};
 
 use crate::bind::bound_at;
 use crate::gather::gather_at;
@@ -51,7 +52,7 @@ fn candidate(
     requires short { length left.now ≤ 6 }
     requires some { 0 < length left.now }
     requires on { IsOn 3 3 left.now }
-    requires lawful { AllByRecursion (IsProgramGate 64) c.now }
+    requires lawful { AllByRecursion (IsProgramGate most_qubits) c.now }
     requires walk { IsWalk left.now walk.now }
     requires links { AreLinksOf c.now neighbours.now.links }
     requires within { p < length c.now }
@@ -94,7 +95,7 @@ fn tested_at(left: &[Op], c: &[Inst], found: &[usize; 6]) -> Option<Place>
     requires short { length left.now ≤ 6 }
     requires some { 0 < length left.now }
     requires on { IsOn 3 3 left.now }
-    requires lawful { AllByRecursion (IsProgramGate 64) c.now }
+    requires lawful { AllByRecursion (IsProgramGate most_qubits) c.now }
     ensures { result ≡ tested left.now c.now (take (length left.now) found.now) }
 {
     let count = left.len();
@@ -120,7 +121,7 @@ fn place_from(
     requires short { length left.now ≤ 6 }
     requires some { 0 < length left.now }
     requires on { IsOn 3 3 left.now }
-    requires lawful { AllByRecursion (IsProgramGate 64) c.now }
+    requires lawful { AllByRecursion (IsProgramGate most_qubits) c.now }
     requires walk { IsWalk left.now walk.now }
     requires links { AreLinksOf c.now neighbours.now.links }
     requires within { p < length c.now }
@@ -144,7 +145,7 @@ fn add_from(
     requires short { length left.now ≤ 6 }
     requires some { 0 < length left.now }
     requires on { IsOn 3 3 left.now }
-    requires lawful { AllByRecursion (IsProgramGate 64) c.now }
+    requires lawful { AllByRecursion (IsProgramGate most_qubits) c.now }
     requires walk { IsWalk left.now walk.now }
     requires links { AreLinksOf c.now neighbours.now.links }
     requires within { p < length c.now }
@@ -171,7 +172,7 @@ pub fn places_of(
     requires short { length left.now ≤ 6 }
     requires some { 0 < length left.now }
     requires on { IsOn 3 3 left.now }
-    requires lawful { AllByRecursion (IsProgramGate 64) c.now }
+    requires lawful { AllByRecursion (IsProgramGate most_qubits) c.now }
     requires walk { IsWalk left.now walk.now }
     requires links { AreNeighboursOf c.now neighbours.now }
     ensures { IfOk result (λ found. found.items ≡ all_places left.now c.now) }

@@ -5,6 +5,7 @@ ghost use Rattle.qz_circ.specs.Circuit.{IsOn};
 ghost use Rattle.qz_circ.specs.ProgramCircuits.{IsProgramGate};
 ghost use Rattle.qz_circ.specs.Places.{rule_qubits_of, params_of, is_listed, is_usable, places};
 ghost use Rattle.qz_match.specs.Occurring.{qubits_occur, params_occur, gate_params_occur, occur_in};
+ghost use Rattle.qz_circ.specs.ProgramLimits.{most_qubits};
 
 use crate::neighbours::Neighbours;
 use crate::place::Place;
@@ -107,7 +108,7 @@ pub fn places(alloc: Global, left: &[Op], right: &[Op], c: &[Inst]) -> Result<Ve
     requires right_short { length right.now ≤ 6 }
     requires right_on { IsOn 3 3 right.now }
     requires short { length c.now ≤ 20004 }
-    requires lawful { AllByRecursion (IsProgramGate 64) c.now }
+    requires lawful { AllByRecursion (IsProgramGate most_qubits) c.now }
     ensures { IfOk result (λ found. found.items ≡ places left.now right.now c.now) }
 {
     let walk = match Walk::of(left) {

@@ -4,6 +4,7 @@ use Rattle.std.specs.List.{AllByRecursion}
 use Rattle.qz_circ.specs.ProgramCircuits.{ProgramCircuit, IsProgramGate, cost, program_cmp}
 use Rattle.qz_circ.specs.Queue.{QueueList, different, firsts}
 use Rattle.qz_circ.specs.Search.{PlanNumbers, SearchState, is_among}
+use Rattle.qz_circ.specs.ProgramLimits.{most_qubits}
 
 -- the circuit is none of those that were taken, and costs at most so much
 abbrev pub is_new : List ProgramCircuit → ℕ → ProgramCircuit → Bool
@@ -15,7 +16,7 @@ offered_to q cs = record { cap = q.cap; list = firsts q.cap (q.list ++ cs) }
 
 -- the circuit has program gates on 64 qubits, and few enough of them
 pub record IsFit (c : ProgramCircuit) : Type 0 where
-  pub gates : AllByRecursion (IsProgramGate 64) c
+  pub gates : AllByRecursion (IsProgramGate most_qubits) c
   pub short : length c ≤ 20004
 
 -- each of the circuits is so
@@ -30,4 +31,4 @@ pub record IsAt (plan : PlanNumbers) (s : SearchState) (seen : List ProgramCircu
 
 -- what circuits with program gates on 64 qubits become has such gates too
 abbrev pub KeepsGates : (ProgramCircuit → List ProgramCircuit) → Type 0
-KeepsGates children = (y z : ProgramCircuit) → AllByRecursion (IsProgramGate 64) y → Contains (children y) z → AllByRecursion (IsProgramGate 64) z
+KeepsGates children = (y z : ProgramCircuit) → AllByRecursion (IsProgramGate most_qubits) y → Contains (children y) z → AllByRecursion (IsProgramGate most_qubits) z

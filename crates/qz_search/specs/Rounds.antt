@@ -6,10 +6,11 @@ use Rattle.qz_circ.specs.Circuit.{Circuit}
 use Rattle.qz_circ.specs.ProgramCircuits.{ProgramCircuit, IsProgramGate, EquivalentProgramCircuits, cost, program_cmp}
 use Rattle.qz_circ.specs.Queue.{QueueList, IsQueue}
 use Rattle.qz_circ.specs.Replacement.{children}
-use Rattle.qz_circ.specs.Search.{PlanNumbers, IsPlan, start, earliest, after, best_found, IsComplete, IsReached}
+use Rattle.qz_circ.specs.Search.{PlanNumbers, IsPlan, start, earliest, after, best_found, IsComplete, IsReached, most_taken}
 use Rattle.qz_rewrite.specs.SoundClasses.{AreSoundClasses}
 use Rattle.qz_search.specs.Tables.{TableParts, children_by_table}
 use Rattle.qz_search.specs.Offers.{is_new, offered_to, AreFit, IsAt, KeepsGates}
+use Rattle.qz_circ.specs.ProgramLimits.{most_qubits, most_gates}
 
 -- the table of the rules, the plan, how many rounds are left, the circuits that were taken, what a new one may cost in
 -- this round, the queue and the best circuit so far
@@ -36,14 +37,14 @@ module _ (classes : List (List Circuit)) (c : ProgramCircuit) where
     pub sound : (n : ℕ) × (n ≤ 3) × AreSoundClasses n classes
     pub keeps : KeepsGates (children_by_table rules)
     pub lawful : IsPlan plan
-    pub gates : AllByRecursion (IsProgramGate 64) c
-    pub few : length c ≤ 20000
+    pub gates : AllByRecursion (IsProgramGate most_qubits) c
+    pub few : length c ≤ most_gates
     pub same : best_found (children_by_table rules) plan c ≡ best_found (children classes) plan c
 
   -- it stands where the definition is after as many rounds as it has had
   pub record IsBetweenRounds (s : SearchParts) : Type 0 where
     pub search : IsSearch s.rules s.plan
-    pub short : length s.best ≤ 20000
+    pub short : length s.best ≤ most_gates
     pub rounds : ℕ
     pub counted : rounds + s.left ≡ s.plan.rounds
     pub at : IsAt s.plan (after (children_by_table s.rules) s.plan rounds (start c)) s.seen s.queue s.best
@@ -51,7 +52,7 @@ module _ (classes : List (List Circuit)) (c : ProgramCircuit) where
   -- it has taken these circuits, and is a round further once their new children were offered
   pub record IsInRound (batch : List ProgramCircuit) (s : SearchParts) : Type 0 where
     pub fit : AreFit batch
-    pub few : length batch ≤ 64
+    pub few : length batch ≤ most_taken
     pub lawful : IsQueue s.queue
     pub further : IsBetweenRounds (advanced s (new_children s batch))
 
@@ -59,6 +60,6 @@ module _ (classes : List (List Circuit)) (c : ProgramCircuit) where
   pub record IsFound (plan : PlanNumbers) (d : ProgramCircuit) : Type 0 where
     pub best : d ≡ best_found (children classes) plan c
     pub cheap : length d ≤ length c
-    pub lawful : (q : ℕ) → q ≤ 64 → AllByRecursion (IsProgramGate q) c → AllByRecursion (IsProgramGate q) d
-    pub equivalent : (q : ℕ) → q ≤ 64 → AllByRecursion (IsProgramGate q) c → EquivalentProgramCircuits q c d
+    pub lawful : (q : ℕ) → q ≤ most_qubits → AllByRecursion (IsProgramGate q) c → AllByRecursion (IsProgramGate q) d
+    pub equivalent : (q : ℕ) → q ≤ most_qubits → AllByRecursion (IsProgramGate q) c → EquivalentProgramCircuits q c d
     pub complete : IsComplete (children classes) plan c → (x : ProgramCircuit) → IsReached (children classes) (cost d + plan.slack) c x → is_lt (program_cmp x d) ≡ false

@@ -8,6 +8,7 @@ use Rattle.qz_circ.specs.Replacement.{numbered, children_by}
 use Rattle.qz_match.specs.Walks.{IsWalk}
 use Rattle.qz_search.specs.declared.table.Side.{Side}
 use Rattle.qz_search.specs.Circuits.{IsLonger}
+use Rattle.qz_circ.specs.ProgramLimits.{most_qubits}
 
 -- both sides are circuits of at most 6 gates on three qubits, and the rule is usable
 pub record IsRule (left right : Circuit) : Type 0 where
@@ -19,7 +20,7 @@ pub record IsRule (left right : Circuit) : Type 0 where
 
 -- programs become the same ones in both ways, in whichever order
 abbrev pub AreAlike : (ProgramCircuit → List ProgramCircuit) → (ProgramCircuit → List ProgramCircuit) → Type 0
-AreAlike f g = (c : ProgramCircuit) → AllByRecursion (IsProgramGate 64) c → (x : ProgramCircuit) → Contains (f c) x ↔ Contains (g c) x
+AreAlike f g = (c : ProgramCircuit) → AllByRecursion (IsProgramGate most_qubits) c → (x : ProgramCircuit) → Contains (f c) x ↔ Contains (g c) x
 
 -- what a program becomes by a left side, with the circuit of each of these numbers in its place
 abbrev pub children_by_numbers : List Circuit → Circuit → List ℕ → ProgramCircuit → List ProgramCircuit
@@ -67,7 +68,7 @@ pub record IsRightAdded (left right : Circuit) (old new : List Circuit) (before 
 -- the right sides of a left one, with what programs become by them
 pub record AreRights (circuits : List Circuit) (left : Circuit) (rights : List ℕ) (children : ProgramCircuit → List ProgramCircuit) : Type 0 where
   pub each : AllByRecursion (IsRight circuits left) rights
-  pub same : (c : ProgramCircuit) → AllByRecursion (IsProgramGate 64) c → children_by_numbers circuits left rights c ≡ children c
+  pub same : (c : ProgramCircuit) → AllByRecursion (IsProgramGate most_qubits) c → children_by_numbers circuits left rights c ≡ children c
 
 -- the last side, which has this left side, is gone
 pub record IsTwinTaken (left : Circuit) (rights : List ℕ) (old new : List Side) : Type 0 where

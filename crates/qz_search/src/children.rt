@@ -9,6 +9,7 @@ ghost use Rattle.qz_circ.specs.Replacement.{replaced, children_by};
 ghost use Rattle.qz_match.specs.Neighbours.{AreNeighboursOf};
 ghost use Rattle.qz_search.specs.Offers.{is_new, offered_to};
 ghost use Rattle.qz_search.specs.Tables.{children_of, children_by_table, IsSide};
+ghost use Rattle.qz_circ.specs.ProgramLimits.{most_qubits};
 
 use crate::circuits::Circuits;
 use crate::filter::Filter;
@@ -64,7 +65,7 @@ fn offer_at(
     queue: &mut Queue,
 ) -> Result<(), Memory>
     requires lawful { IsQueue queue.old }
-    requires gates { AllByRecursion (IsProgramGate 64) c.now }
+    requires gates { AllByRecursion (IsProgramGate most_qubits) c.now }
     requires short { length c.now ≤ 20004 }
     requires left { IsOn 3 3 rule.now.left.now }
     requires right { IsOn 3 3 rule.now.right.now }
@@ -90,7 +91,7 @@ fn offer_right(
     queue: &mut Queue,
 ) -> Result<(), Memory>
     requires lawful { IsQueue queue.old }
-    requires gates { AllByRecursion (IsProgramGate 64) c.now }
+    requires gates { AllByRecursion (IsProgramGate most_qubits) c.now }
     requires short { length c.now ≤ 20004 }
     requires left { IsOn 3 3 rule.now.left.now }
     requires right { IsOn 3 3 rule.now.right.now }
@@ -114,7 +115,7 @@ fn offer_side(
     queue: &mut Queue,
 ) -> Result<(), Memory>
     requires lawful { IsQueue queue.old }
-    requires gates { AllByRecursion (IsProgramGate 64) c.now.gates.now }
+    requires gates { AllByRecursion (IsProgramGate most_qubits) c.now.gates.now }
     requires short { length c.now.gates.now ≤ 20004 }
     requires links { AreNeighboursOf c.now.gates.now c.now.neighbours.now }
     requires side { IsSide circuits.now side.now }
@@ -141,7 +142,7 @@ pub(crate) fn offer_children(
     queue: &mut Queue,
 ) -> Result<(), Memory>
     requires lawful { IsQueue queue.old }
-    requires gates { AllByRecursion (IsProgramGate 64) c.now }
+    requires gates { AllByRecursion (IsProgramGate most_qubits) c.now }
     requires short { length c.now ≤ 20004 }
     ensures { OnOk result (queue.new ≡ offered_to queue.old (filter (is_new test.now.seen test.now.most) (children_by_table rules.now c.now))) }
 {

@@ -5,6 +5,18 @@ ghost use Rattle.qz_search.specs.PlanFaults.{plan_refusal};
 
 use std::marker::Model;
 
+// The most circuits that a round takes.
+const MOST_TAKEN: u64 = 64;
+
+// The most circuits that the queue holds.
+const MOST_HELD: u64 = 500;
+
+// The most circuits that all rounds together take.
+const MOST_TAKEN_IN_ALL: u64 = 4096;
+
+// The most gates that a child may have more than the best circuit.
+const MOST_SLACK: u64 = 4;
+
 /// Which of the numbers of a plan is refused.
 #[derive(Clone, Copy, Debug, PartialEq, Eq)]
 pub enum PlanFault {
@@ -45,16 +57,16 @@ impl Model for Plan {
 fn refused(rounds: u64, batch: u64, cap: u64, slack: u64) -> Option<PlanFault>
     ensures { result ≡ plan_refusal (record { rounds = rounds; batch = batch; cap = cap; slack = slack }) }
 {
-    if batch < 1 || batch > 64 {
+    if batch < 1 || batch > MOST_TAKEN {
         return Some(PlanFault::Batch);
     }
-    if cap < 1 || cap > 500 {
+    if cap < 1 || cap > MOST_HELD {
         return Some(PlanFault::Cap);
     }
-    if rounds.saturating_mul(batch) > 4096 {
+    if rounds.saturating_mul(batch) > MOST_TAKEN_IN_ALL {
         return Some(PlanFault::Rounds);
     }
-    if slack > 4 {
+    if slack > MOST_SLACK {
         return Some(PlanFault::Slack);
     }
     None

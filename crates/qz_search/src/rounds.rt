@@ -11,6 +11,7 @@ ghost use Rattle.qz_queue.specs.Circuits.{circuits};
 ghost use Rattle.qz_search.specs.Offers.{is_new, offered_to, AreFit};
 ghost use Rattle.qz_search.specs.Tables.{children_by_table};
 ghost use Rattle.qz_search.specs.Rounds.{new_children, advanced, IsBetweenRounds, IsInRound, IsFound};
+ghost use Rattle.qz_circ.specs.ProgramLimits.{most_qubits, most_gates};
 
 use crate::children;
 use crate::filter::Filter;
@@ -47,8 +48,8 @@ impl Model for Rounds {
 impl Rounds {
     /// The search from a circuit by the rules, before its first round.
     pub fn begin(alloc: Global, rules: &Rules, c: &[Inst], plan: Plan) -> Result<Rounds, Memory>
-        requires few { length c.now ≤ 20000 }
-        requires gates { AllByRecursion (IsProgramGate 64) c.now }
+        requires few { length c.now ≤ most_gates }
+        requires gates { AllByRecursion (IsProgramGate most_qubits) c.now }
         ensures between { IfOk result (λ s. IsBetweenRounds rules.now.classes c.now s) }
         ensures plan { IfOk result (λ s. s.plan ≡ plan) }
     {
@@ -80,7 +81,7 @@ impl Rounds {
     /// Begins a round: takes the circuits whose children it offers. None where no round is left or the queue is empty, and the best
     /// circuit so far is the one that the search finds.
     pub fn take_batch(&mut self, alloc: Global) -> Result<Option<Vec<Vec<Inst>>>, Memory>
-        requires { length self.old.best ≤ 20000 }
+        requires { length self.old.best ≤ most_gates }
         ensures found { (classes : List (List Circuit)) (c : ProgramCircuit) → IsBetweenRounds classes c self.old → IfOk result (λ taken. MatchOption taken (IsFound classes c self.old.plan self.new.best) (λ batch. IsInRound classes c (circuits batch.items) self.new)) }
         ensures left { IfOk result (λ taken. IfSome taken (λ batch. self.new.left + 1 ≡ self.old.left)) }
         ensures plan { self.new.plan ≡ self.old.plan }
@@ -105,7 +106,7 @@ impl Rounds {
         queue: &mut Queue,
     ) -> Result<(), Memory>
         requires lawful { IsQueue queue.old }
-        requires gates { AllByRecursion (IsProgramGate 64) c.now }
+        requires gates { AllByRecursion (IsProgramGate most_qubits) c.now }
         requires short { length c.now ≤ 20004 }
         ensures { OnOk result (queue.new ≡ offered_to queue.old (filter (is_new self.now.seen self.now.most) (children_by_table self.now.rules c.now))) }
     {
@@ -144,12 +145,12 @@ impl Rounds {
 /// is equivalent to that circuit and has no more gates. Where the search is complete, no circuit that it could reach is before
 /// the found one.
 pub fn search(alloc: Global, rules: &Rules, c: &[Inst], plan: Plan) -> Result<Vec<Inst>, Memory>
-    requires few { length c.now ≤ 20000 }
-    requires gates { AllByRecursion (IsProgramGate 64) c.now }
+    requires few { length c.now ≤ most_gates }
+    requires gates { AllByRecursion (IsProgramGate most_qubits) c.now }
     ensures best { IfOk result (λ d. d.items ≡ best_found (children rules.now.classes) plan c.now) }
     ensures cheap { IfOk result (λ d. length d.items ≤ length c.now) }
-    ensures lawful { (q : ℕ) → q ≤ 64 → AllByRecursion (IsProgramGate q) c.now → IfOk result (λ d. AllByRecursion (IsProgramGate q) d.items) }
-    ensures equivalent { (q : ℕ) → q ≤ 64 → AllByRecursion (IsProgramGate q) c.now → IfOk result (λ d. EquivalentProgramCircuits q c.now d.items) }
+    ensures lawful { (q : ℕ) → q ≤ most_qubits → AllByRecursion (IsProgramGate q) c.now → IfOk result (λ d. AllByRecursion (IsProgramGate q) d.items) }
+    ensures equivalent { (q : ℕ) → q ≤ most_qubits → AllByRecursion (IsProgramGate q) c.now → IfOk result (λ d. EquivalentProgramCircuits q c.now d.items) }
     ensures complete { IsComplete (children rules.now.classes) plan c.now → IfOk result (λ d. (x : ProgramCircuit) → IsReached (children rules.now.classes) (cost d.items + plan.slack) c.now x → is_lt (program_cmp x d.items) ≡ false) }
 {
     let mut rounds = Rounds::begin(alloc, rules, c, plan)?;

@@ -23,6 +23,7 @@ use Rattle.qz_top.specs.declared.words.OptionName.TheVariants as option
 use Rattle.qz_top.specs.declared.words.Options.{Options}
 use Rattle.qz_top.specs.declared.words.WordFault.{WordFault}
 use Rattle.qz_top.specs.declared.words.WordFault.TheVariants.{Usage, Limit}
+use Rattle.qz_circ.specs.ProgramLimits.{most_qubits, most_gates}
 
 -- ---- numbers
 
@@ -161,13 +162,13 @@ optimisation_limit plan workers = option_or (option_map which_of_plan (plan_refu
 
 -- the first limit that a trial passes: there are 1 to 64 qubits, and at most 20,000 gates
 abbrev pub trial_limit : ℕ → ℕ → Option Which
-trial_limit q g = if nat_lt q 1 || nat_lt 64 q then Some TrialQubits else if nat_lt 20000 g then Some TrialGates else None
+trial_limit q g = if nat_lt q 1 || nat_lt most_qubits q then Some TrialQubits else if nat_lt most_gates g then Some TrialGates else None
 
 -- numbers of qubits and gates that pass none
 pub record IsTrialSize (q g : ℕ) : Type 0 where
   pub some : 1 ≤ q
-  pub few : q ≤ 64
-  pub short : g ≤ 20000
+  pub few : q ≤ most_qubits
+  pub short : g ≤ most_gates
 
 -- a number of workers that passes none
 pub record AreWorkers (workers : ℕ) : Type 0 where

@@ -13,6 +13,7 @@ ghost use Rattle.qz_random.specs.RandomWords.{generator_after};
 ghost use Rattle.qz_top.specs.Status.{WritesNothing};
 ghost use Rattle.qz_top.specs.Words.{IsTrialSize};
 ghost use Rattle.qz_top.specs.Trial.{controlled, gate_of_kind, trial_gate, trial_circuit, trial_limits, trial_plan, AreTrialClasses, IsTrialFound, summary, IsTrialText, Tries};
+ghost use Rattle.qz_circ.specs.ProgramLimits.{most_qubits, most_gates};
 
 use crate::status::Status;
 use crate::writing::write_text;
@@ -124,8 +125,8 @@ fn rules(alloc: Global) -> Result<Rules, Memory>
 
 // The circuit that the search of a trial finds from this one.
 fn found(alloc: Global, circuit: &[Inst]) -> Result<Vec<Inst>, Memory>
-    requires few { length circuit.now ≤ 20000 }
-    requires gates { AllByRecursion (IsProgramGate 64) circuit.now }
+    requires few { length circuit.now ≤ most_gates }
+    requires gates { AllByRecursion (IsProgramGate most_qubits) circuit.now }
     ensures { IfOk result (λ after. IsTrialFound circuit.now after.items) }
 {
     let rules = rules(alloc)?;

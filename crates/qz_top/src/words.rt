@@ -6,7 +6,7 @@ ghost use Rattle.qz_search.specs.PlanFaults.{plan_refusal};
 ghost use Rattle.qz_top.specs.Words.{number_of, option_named, has_option, option_of, takes_value, no_options, IsFileWithin, new_number, new_file, with_value, without_value, options_from, workers_of, seed_of, plan_of};
 ghost use Rattle.qz_top.specs.Words.{which_of, which_of_plan, workers_limit, trial_limit, AreWorkers, IsTrialSize, IsLawfulCommand, unless_passed, generation, optimisation, trial, limits_of, generation_asked, optimisation_asked, tidying_asked, trial_asked, command_by, command_of};
 
-use qz_circ::{Bounds, LimitFault, Which};
+use qz_circ::{Bounds, LimitFault, MOST_GATES, MOST_QUBITS, Which};
 use qz_search::{Plan, PlanFault};
 
 /// What the words ask for.
@@ -363,10 +363,10 @@ fn trial_limit(qubits: u64, gates: u64) -> Option<Which>
     ensures limit { result ≡ trial_limit qubits gates }
     ensures none { result ≡ None → IsTrialSize qubits gates }
 {
-    if qubits < 1 || qubits > 64 {
+    if qubits < 1 || qubits > MOST_QUBITS as u64 {
         return Some(Which::TrialQubits);
     }
-    if gates > 20_000 {
+    if gates > MOST_GATES as u64 {
         return Some(Which::TrialGates);
     }
     None
