@@ -6,7 +6,7 @@ use Rattle.std.proofs.lemmas.Bool.{eqb-true}
 use Rattle.std.proofs.lemmas.List.{drop_all, get_or-map, length-map}
 use Rattle.std.proofs.lemmas.List.Elements.{filter-append}
 use Rattle.qz_circ.specs.declared.circuit.Inst.{Inst}
-use Rattle.qz_queue.specs.Circuits.{circuits}
+use Rattle.qz_circ.specs.Vectors.{lists_of}
 use Rattle.qz_circ.specs.ProgramCircuits.{ProgramCircuit, program_cmp}
 use Rattle.qz_circ.specs.Queue.{QueueList, IsQueue, firsts}
 use Rattle.qz_circ.proofs.ProgramOrder.{program_cmp_total, program_cmp_exact}
@@ -63,7 +63,7 @@ numbered_past : (batch : List ProgramCircuit) (n : ℕ) → length batch ≤ n �
 numbered_past batch n past = ap (λ cs. take 1 cs ++ []) (drop_all n batch past)
 
 -- a circuit in vectors, by its number
-pub circuit_at : {A : Type 0} (vs : List (Vec Inst A)) (n : ℕ) (v : Vec Inst A) (c : ProgramCircuit) → n < length (circuits vs) → v ≡ get_or vs n v → c ≡ v.items → c ≡ get_or (circuits vs) n c
+pub circuit_at : {A : Type 0} (vs : List (Vec Inst A)) (n : ℕ) (v : Vec Inst A) (c : ProgramCircuit) → n < length (lists_of vs) → v ≡ get_or vs n v → c ≡ v.items → c ≡ get_or (lists_of vs) n c
 circuit_at vs n v c inside is same =
     same ∙ (λ i. (is i).items) ∙ sym (get_or-map (λ u. u.items) vs n v c (omega (arith, inside, length-map vs (λ u. u.items))))
 

@@ -23,14 +23,14 @@ pub(crate) struct Round {
 }
 
 impl Model for Round {
-    ghost use Rattle.qz_queue.specs.Circuits.{circuits};
+    ghost use Rattle.qz_circ.specs.Vectors.{lists_of};
     ghost use Rattle.qz_hunt.specs.Gathered.{RoundParts, IsRound};
 
     ghost Value = { RoundParts };
 
-    ghost view = { λ r. record { search = r.search; batch = circuits r.batch.items; seats = r.seats } };
+    ghost view = { λ r. record { search = r.search; batch = lists_of r.batch.items; seats = r.seats } };
 
-    ghost invariant = { λ r. IsRound (record { search = r.search; batch = circuits r.batch.items; seats = r.seats }) };
+    ghost invariant = { λ r. IsRound (record { search = r.search; batch = lists_of r.batch.items; seats = r.seats }) };
 }
 
 impl Round {

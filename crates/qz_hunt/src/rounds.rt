@@ -5,7 +5,7 @@ ghost use Rattle.std.specs.Ordering.{is_lt};
 ghost use Rattle.qz_circ.specs.ProgramCircuits.{ProgramCircuit, IsProgramGate, EquivalentProgramCircuits, cost, program_cmp};
 ghost use Rattle.qz_circ.specs.Replacement.{children};
 ghost use Rattle.qz_circ.specs.Search.{best_found, IsComplete, IsReached, most_taken};
-ghost use Rattle.qz_queue.specs.Circuits.{circuits};
+ghost use Rattle.qz_circ.specs.Vectors.{lists_of};
 ghost use Rattle.qz_search.specs.Offers.{AreFit};
 ghost use Rattle.qz_search.specs.Rounds.{new_children, advanced};
 ghost use Rattle.qz_circ.specs.ProgramLimits.{most_qubits, most_gates};
@@ -31,9 +31,9 @@ fn next_round<R: Threads + Wait + Sync, T: Turnstile>(
 ) -> Result<Rounds, Memory>
     requires some_worker { 1 ≤ workers }
     requires few_workers { workers ≤ 16 }
-    requires fit { AreFit (circuits batch.items) }
+    requires fit { AreFit (lists_of batch.items) }
     requires few { length batch.items ≤ most_taken }
-    ensures { IfOk result (λ next. next ≡ advanced search (new_children search (circuits batch.items))) }
+    ensures { IfOk result (λ next. next ≡ advanced search (new_children search (lists_of batch.items))) }
 {
     let limit = batch.len() as u64;
     let (seats, pass) = Seats::open(alloc, limit, Vec::new(alloc), workers.min(limit).max(1))?;

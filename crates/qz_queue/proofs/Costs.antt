@@ -8,7 +8,7 @@ use Rattle.qz_circ.specs.declared.circuit.Inst.{Inst}
 use Rattle.qz_circ.specs.ProgramCircuits.{ProgramCircuit, cost, program_cmp}
 use Rattle.qz_circ.specs.Queue.{QueueList, IsQueue, firsts}
 use Rattle.qz_circ.proofs.ProgramOrder.{not_dearer, cheaper_earlier}
-use Rattle.qz_queue.specs.Circuits.{circuits}
+use Rattle.qz_circ.specs.Vectors.{lists_of}
 use Rattle.qz_queue.proofs.DifferentOnes.{Has, Strict}
 use Rattle.qz_queue.proofs.QueueLists.{strict_circuits, queue_ordered, queue_few, offer_late}
 
@@ -85,13 +85,13 @@ closed_refuses q n c h dear closed =
     let more = count_more (λ d. ltb (cost d) n) (λ d. is_lt (program_cmp d c)) q.list (λ k g. ap is_lt (cheaper_earlier k c (omega (arith, ltb-true (cost k) n g)))) in
     offer_late q.cap q.list c h (omega (arith, more))
 
-get_circuit : {A : Type 0} (vs : List (Vec Inst A)) (i : ℕ) (d : Vec Inst A) → i < length vs → get_or (circuits vs) i [] ≡ (get_or vs i d).items
+get_circuit : {A : Type 0} (vs : List (Vec Inst A)) (i : ℕ) (d : Vec Inst A) → i < length vs → get_or (lists_of vs) i [] ≡ (get_or vs i d).items
 get_circuit [] i d l = absurd (omega arith)
 get_circuit (v ∷ vs) zero d l = refl
 get_circuit (v ∷ vs) (suc i) d l = get_circuit vs i d (omega arith)
 
 -- the cost of the last of the circuits that vectors hold
-pub last_of : {A : Type 0} (vs : List (Vec Inst A)) (w : Vec Inst A) (n : ℕ) → 0 < length vs → ((d : Vec Inst A) → w ≡ get_or vs (length vs - 1) d) → n ≡ vec_len w → n ≡ cost (get_or (circuits vs) (length (circuits vs) - 1) [])
+pub last_of : {A : Type 0} (vs : List (Vec Inst A)) (w : Vec Inst A) (n : ℕ) → 0 < length vs → ((d : Vec Inst A) → w ≡ get_or vs (length vs - 1) d) → n ≡ vec_len w → n ≡ cost (get_or (lists_of vs) (length (lists_of vs) - 1) [])
 last_of vs w n some is e =
-    let long : length (circuits vs) ≡ length vs = length-map vs (λ v. v.items) in
-    e ∙ w.ok.0 ∙ (λ i. length (is w i).items) ∙ sym (ap length (get_circuit vs (length vs - 1) w (omega arith))) ∙ (λ i. cost (get_or (circuits vs) (sym long i - 1) []))
+    let long : length (lists_of vs) ≡ length vs = length-map vs (λ v. v.items) in
+    e ∙ w.ok.0 ∙ (λ i. length (is w i).items) ∙ sym (ap length (get_circuit vs (length vs - 1) w (omega arith))) ∙ (λ i. cost (get_or (lists_of vs) (sym long i - 1) []))

@@ -15,7 +15,8 @@ use Rattle.qz_circ.specs.Queue.{QueueList, IsRefused, QueueStep, after_steps, gi
 use Rattle.qz_circ.specs.Queue.QueueStep.{Offer, Merge}
 use Rattle.qz_circ.specs.Search.{is_among}
 use Rattle.qz_circ.proofs.ProgramOrder.{program_cmp_total, program_cmp_exact}
-use Rattle.qz_queue.specs.Circuits.{circuits, AreOrdered, place_of}
+use Rattle.qz_circ.specs.Vectors.{lists_of}
+use Rattle.qz_queue.specs.Circuits.{AreOrdered, place_of}
 use Rattle.qz_queue.specs.HeldQueue.{IsHeld}
 use Rattle.qz_queue.proofs.DifferentOnes.{Strict, strict_different, strict_first, strict_drop, first_twice, first_moved, first_right, different_strict}
 use Rattle.qz_queue.proofs.Ranks.{put_in, there_already, among_at, among_past, place_tells}
@@ -92,7 +93,7 @@ pub contains_among : (cs : List ProgramCircuit) (c : ProgramCircuit) → Contain
 contains_among cs c h = list_any-from_Contains (eq_by_cmp_equiv program_cmp_total) c cs h
 
 -- the vectors' circuits
-pub circuits_put : {A : Type 0} (n i : ℕ) (vs : List (Vec Inst A)) (v : Vec Inst A) → circuits (insert (take n vs) i v) ≡ insert (take n (circuits vs)) i v.items
+pub circuits_put : {A : Type 0} (n i : ℕ) (vs : List (Vec Inst A)) (v : Vec Inst A) → lists_of (insert (take n vs) i v) ≡ insert (take n (lists_of vs)) i v.items
 circuits_put zero zero vs v = refl
 circuits_put zero (suc i) vs v = refl
 circuits_put (suc n) zero [] v = refl
@@ -132,7 +133,7 @@ found_at cs c m r found h l e f = λ here.
 pub found_there : (cs : List ProgramCircuit) (c : ProgramCircuit) (low high : ℕ) (found : Bool) → low ≤ place_of cs c → place_of cs c ≤ high → high ≤ low → IsFound cs c high found → found ≡ is_among cs c
 found_there cs c low high found from below over h = h (omega arith)
 
-circuits_insert : {A : Type 0} (i : ℕ) (vs : List (Vec Inst A)) (v : Vec Inst A) → circuits (insert vs i v) ≡ insert (circuits vs) i v.items
+circuits_insert : {A : Type 0} (i : ℕ) (vs : List (Vec Inst A)) (v : Vec Inst A) → lists_of (insert vs i v) ≡ insert (lists_of vs) i v.items
 circuits_insert zero vs v = refl
 circuits_insert (suc i) [] v = refl
 circuits_insert (suc i) (w ∷ ws) v = ap (λ cs. w.items ∷ cs) (circuits_insert i ws v)
@@ -174,13 +175,13 @@ module _ {A B : Type 0} where
         lawful = record {
           some = some;
           few = few;
-          ordered = (λ i. firsts most (circuits (e i))) ∙ none_of most ∙ sym (ap circuits e);
+          ordered = (λ i. firsts most (lists_of (e i))) ∙ none_of most ∙ sym (ap lists_of e);
         };
         room = room;
       }
 
   -- the new list is the first of some circuits
-  pub held_first : (most : ℕ) (old new : Vec (Vec Inst A) B) (cs : List ProgramCircuit) → IsHeld most old → circuits new.items ≡ firsts most cs → most ≤ vec_capacity new → IsHeld most new
+  pub held_first : (most : ℕ) (old new : Vec (Vec Inst A) B) (cs : List ProgramCircuit) → IsHeld most old → lists_of new.items ≡ firsts most cs → most ≤ vec_capacity new → IsHeld most new
   held_first most old new cs held e room =
       record {
         lawful = record {
@@ -192,17 +193,17 @@ module _ {A B : Type 0} where
       }
 
 -- a place in a queue's list that isn't the most that it holds is below it
-pub early : {A : Type 0} (most : ℕ) (vs : List (Vec Inst A)) (i : ℕ) → firsts most (circuits vs) ≡ circuits vs → i ≤ length vs → (i ≡ most → ⊥) → i < most
-early most vs i h within other = omega (arith, queue_few most (circuits vs) h, length-map vs (λ v. v.items))
+pub early : {A : Type 0} (most : ℕ) (vs : List (Vec Inst A)) (i : ℕ) → firsts most (lists_of vs) ≡ lists_of vs → i ≤ length vs → (i ≡ most → ⊥) → i < most
+early most vs i h within other = omega (arith, queue_few most (lists_of vs) h, length-map vs (λ v. v.items))
 
 -- a batch is taken out at the front
-pub batch_taken : {A B : Type 0} (k n : ℕ) (list : Vec (Vec Inst A) B) → n ≡ min k (vec_len list) → circuits (take n list.items) ≡ take k (circuits list.items)
+pub batch_taken : {A B : Type 0} (k n : ℕ) (list : Vec (Vec Inst A) B) → n ≡ min k (vec_len list) → lists_of (take n list.items) ≡ take k (lists_of list.items)
 batch_taken k n list e =
     let vs = list.items in
-    let n_is : n ≡ min k (length (circuits vs)) = omega (arith, list.ok.0, length-map vs (λ v. v.items)) in
-    sym (take-map (λ v. v.items) n vs) ∙ (λ i. take (n_is i) (circuits vs)) ∙ take_min k (circuits vs)
+    let n_is : n ≡ min k (length (lists_of vs)) = omega (arith, list.ok.0, length-map vs (λ v. v.items)) in
+    sym (take-map (λ v. v.items) n vs) ∙ (λ i. take (n_is i) (lists_of vs)) ∙ take_min k (lists_of vs)
 
-drop_circuits : {A : Type 0} (n : ℕ) (vs : List (Vec Inst A)) → circuits (drop n vs) ≡ drop n (circuits vs)
+drop_circuits : {A : Type 0} (n : ℕ) (vs : List (Vec Inst A)) → lists_of (drop n vs) ≡ drop n (lists_of vs)
 drop_circuits zero vs = refl
 drop_circuits (suc n) [] = refl
 drop_circuits (suc n) (v ∷ vs) = drop_circuits n vs
@@ -215,10 +216,10 @@ drop_least (suc k) zero (c ∷ cs) e = absurd (omega arith)
 drop_least (suc k) (suc n) [] e = refl
 drop_least (suc k) (suc n) (c ∷ cs) e = drop_least k n cs (omega arith)
 
-pub batch_rest : {A B : Type 0} (k n : ℕ) (list : Vec (Vec Inst A) B) → n ≡ min k (vec_len list) → circuits (drop n list.items) ≡ drop k (circuits list.items)
+pub batch_rest : {A B : Type 0} (k n : ℕ) (list : Vec (Vec Inst A) B) → n ≡ min k (vec_len list) → lists_of (drop n list.items) ≡ drop k (lists_of list.items)
 batch_rest k n list e =
     let vs = list.items in
-    drop_circuits n vs ∙ drop_least k n (circuits vs) (omega (arith, list.ok.0, length-map vs (λ v. v.items)))
+    drop_circuits n vs ∙ drop_least k n (lists_of vs) (omega (arith, list.ok.0, length-map vs (λ v. v.items)))
 
 -- the first of circuits that are in order and no more are they all
 pub all_first : (most : ℕ) (cs : List ProgramCircuit) → Strict program_cmp cs → length cs ≤ most → firsts most cs ≡ cs
@@ -232,23 +233,23 @@ rest_first most n cs h =
 
 pub held_rest : {A B : Type 0} (most n : ℕ) (old new : Vec (Vec Inst A) B) → IsHeld most old → new.items ≡ drop n old.items → vec_capacity new ≡ vec_capacity old → IsHeld most new
 held_rest most n old new held e room =
-    let rest = ap circuits e ∙ drop_circuits n old.items in
+    let rest = ap lists_of e ∙ drop_circuits n old.items in
     record {
       lawful = record {
         some = held.lawful.some;
         few = held.lawful.few;
-        ordered = ap (firsts most) rest ∙ rest_first most n (circuits old.items) held.lawful.ordered ∙ sym rest;
+        ordered = ap (firsts most) rest ∙ rest_first most n (lists_of old.items) held.lawful.ordered ∙ sym rest;
       };
       room = omega (arith, held.room);
     }
 
 -- the list after a circuit was put in
-pub list_put : {A : Type 0} (most : ℕ) (vs : List (Vec Inst A)) (v : Vec Inst A) (i : ℕ) (ws : List (Vec Inst A)) → firsts most (circuits vs) ≡ circuits vs → i ≡ place_of (circuits vs) v.items → i ≤ length vs → (i ≡ most → ⊥) → is_among (circuits vs) v.items ≡ false
-    → ws ≡ insert (take (most - 1) vs) i v → circuits ws ≡ firsts most (v.items ∷ circuits vs)
+pub list_put : {A : Type 0} (most : ℕ) (vs : List (Vec Inst A)) (v : Vec Inst A) (i : ℕ) (ws : List (Vec Inst A)) → firsts most (lists_of vs) ≡ lists_of vs → i ≡ place_of (lists_of vs) v.items → i ≤ length vs → (i ≡ most → ⊥) → is_among (lists_of vs) v.items ≡ false
+    → ws ≡ insert (take (most - 1) vs) i v → lists_of ws ≡ firsts most (v.items ∷ lists_of vs)
 list_put most vs v i ws h at within other missing e =
     let below = early most vs i h within other in
-    ap circuits e ∙ circuits_put (most - 1) i vs v ∙ (λ j. insert (take (most - 1) (circuits vs)) (at j) v.items)
-    ∙ sym (offer_put most (circuits vs) v.items h missing (omega (arith, at, below)))
+    ap lists_of e ∙ circuits_put (most - 1) i vs v ∙ (λ j. insert (take (most - 1) (lists_of vs)) (at j) v.items)
+    ∙ sym (offer_put most (lists_of vs) v.items h missing (omega (arith, at, below)))
 
 -- one circuit of another queue is offered, and the others are left
 pub offer_step : (q new : QueueList) (c : ProgramCircuit) (rest : List ProgramCircuit) → new ≡ record { cap = q.cap; list = firsts q.cap (c ∷ q.list) }
@@ -275,12 +276,12 @@ unfolding different
 different_there cs c h there =
     ap (λ ds. insert_key program_cmp ds c) h ∙ there_already program_cmp_total cs c (strict_circuits cs h) there
 
-pub different_put : {A : Type 0} (vs : List (Vec Inst A)) (v : Vec Inst A) (i : ℕ) (ws : List (Vec Inst A)) → AreOrdered (circuits vs) → i ≡ place_of (circuits vs) v.items → is_among (circuits vs) v.items ≡ false → ws ≡ insert vs i v
-    → circuits ws ≡ different program_cmp (v.items ∷ circuits vs)
+pub different_put : {A : Type 0} (vs : List (Vec Inst A)) (v : Vec Inst A) (i : ℕ) (ws : List (Vec Inst A)) → AreOrdered (lists_of vs) → i ≡ place_of (lists_of vs) v.items → is_among (lists_of vs) v.items ≡ false → ws ≡ insert vs i v
+    → lists_of ws ≡ different program_cmp (v.items ∷ lists_of vs)
 unfolding different
 different_put vs v i ws h at missing e =
-    let cs = circuits vs in
-    ap circuits e ∙ circuits_insert i vs v ∙ (λ j. insert cs (at j) v.items)
+    let cs = lists_of vs in
+    ap lists_of e ∙ circuits_insert i vs v ∙ (λ j. insert cs (at j) v.items)
     ∙ sym (ap (λ ds. insert_key program_cmp ds v.items) h ∙ put_in program_cmp_total cs v.items (strict_circuits cs h) missing)
 
 pub different_twice : (cs ds : List ProgramCircuit) → cs ≡ different program_cmp ds → AreOrdered cs

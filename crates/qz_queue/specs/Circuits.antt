@@ -5,10 +5,6 @@ use Rattle.qz_circ.specs.declared.circuit.Inst.{Inst}
 use Rattle.qz_circ.specs.ProgramCircuits.{ProgramCircuit, program_cmp}
 use Rattle.qz_circ.specs.Queue.{different}
 
--- the circuits that these vectors hold
-abbrev pub circuits : {A : Type 0} → List (Vec Inst A) → List ProgramCircuit
-circuits vectors = map (λ v. v.items) vectors
-
 -- the circuits are different and in order
 abbrev pub AreOrdered : List ProgramCircuit → Type 0
 AreOrdered cs = different program_cmp cs ≡ cs

@@ -2,7 +2,8 @@
 ghost use Rattle.std.specs.Prelude.{◌≡◌, ◌<◌, ◌≤◌, [], length, take, slice_index_or};
 ghost use Rattle.qz_circ.specs.ProgramCircuits.{program_cmp};
 ghost use Rattle.qz_circ.specs.Search.{is_among};
-ghost use Rattle.qz_queue.specs.Circuits.{circuits, AreOrdered, IsFront, place_of};
+ghost use Rattle.qz_circ.specs.Vectors.{lists_of};
+ghost use Rattle.qz_queue.specs.Circuits.{AreOrdered, IsFront, place_of};
 
 use qz_circ::{Inst, prec_insts};
 use std::cmp::Ordering;
@@ -11,9 +12,9 @@ use std::cmp::Ordering;
 // how many then are known to be, which is none where one of them is longer.
 fn compare_from(list: &[Vec<Inst>], i: usize, c: &[Inst], from: usize) -> (Ordering, usize)
     requires within { i < length list.now }
-    requires same { take from (slice_index_or (circuits list.now) i []) ≡ take from c.now }
-    ensures order { result.0 ≡ program_cmp (slice_index_or (circuits list.now) i []) c.now }
-    ensures same { IsFront result.1 (slice_index_or (circuits list.now) i []) c.now }
+    requires same { take from (slice_index_or (lists_of list.now) i []) ≡ take from c.now }
+    ensures order { result.0 ≡ program_cmp (slice_index_or (lists_of list.now) i []) c.now }
+    ensures same { IsFront result.1 (slice_index_or (lists_of list.now) i []) c.now }
 {
     compare_gates(&list[i], c, from)
 }
@@ -57,10 +58,10 @@ fn probe(low: usize, high: usize, count: usize) -> usize
 // How many of some circuits that are different and in order are before another one, and whether it is among them. What is known
 // to be the same as in the nearest ones on both sides is the same in those between, so that it isn't compared again.
 pub(crate) fn find(list: &[Vec<Inst>], c: &[Inst]) -> (usize, bool)
-    requires { AreOrdered (circuits list.now) }
-    ensures place { result.0 ≡ place_of (circuits list.now) c.now }
+    requires { AreOrdered (lists_of list.now) }
+    ensures place { result.0 ≡ place_of (lists_of list.now) c.now }
     ensures bound { result.0 ≤ length list.now }
-    ensures there { result.1 ≡ is_among (circuits list.now) c.now }
+    ensures there { result.1 ≡ is_among (lists_of list.now) c.now }
 {
     let mut found = false;
     let mut low = 0;

@@ -3,7 +3,7 @@ ghost use Rattle.std.specs.Prelude.{◌≡◌, ◌<◌, ◌≤◌, ◌-◌, ◌�
 ghost use Rattle.std.specs.List.{insert};
 ghost use Rattle.qz_circ.specs.ProgramCircuits.{ProgramCircuit, cost};
 ghost use Rattle.qz_circ.specs.Queue.{IsQueue, IsRefused, firsts};
-ghost use Rattle.qz_queue.specs.Circuits.{circuits};
+ghost use Rattle.qz_circ.specs.Vectors.{lists_of};
 
 use crate::place::find;
 use qz_circ::{Inst, Memory};
@@ -70,7 +70,7 @@ fn take_front(list: &mut Vec<Vec<Inst>>, room: Vec<Vec<Inst>>, n: usize) -> Vec<
 // Copies of circuits, in a vector that has room for this many.
 fn copies_of(alloc: Global, list: &[Vec<Inst>], most: usize) -> Result<Vec<Vec<Inst>>, Memory>
     requires within { length list.now ≤ most }
-    ensures same { IfOk result (λ copies. circuits copies.items ≡ circuits list.now) }
+    ensures same { IfOk result (λ copies. lists_of copies.items ≡ lists_of list.now) }
     ensures room { IfOk result (λ copies. most ≤ vec_capacity copies) }
 {
     let Ok(room) = Vec::with_capacity(alloc, most) else {
@@ -119,7 +119,7 @@ impl Queue {
 
     /// Takes out the first k circuits, or all where there are fewer. After an error nothing has changed.
     pub fn take_batch(&mut self, k: u64) -> Result<Vec<Vec<Inst>>, Memory>
-        ensures taken { IfOk result (λ batch. circuits batch.items ≡ take k self.old.list) }
+        ensures taken { IfOk result (λ batch. lists_of batch.items ≡ take k self.old.list) }
         ensures rest { OnOk result (self.new ≡ record self.old { list = drop k self.old.list }) }
         ensures err { OnErr result (self.new ≡ self.old) }
     {

@@ -18,13 +18,14 @@ pub struct Seen {
 impl Model for Seen {
     ghost use Rattle.std.specs.Prelude.{List};
     ghost use Rattle.qz_circ.specs.ProgramCircuits.{ProgramCircuit};
-    ghost use Rattle.qz_queue.specs.Circuits.{circuits, AreOrdered};
+    ghost use Rattle.qz_circ.specs.Vectors.{lists_of};
+    ghost use Rattle.qz_queue.specs.Circuits.{AreOrdered};
 
     ghost Value = { List ProgramCircuit };
 
-    ghost view = { λ s. circuits s.list.items };
+    ghost view = { λ s. lists_of s.list.items };
 
-    ghost invariant = { λ s. AreOrdered (circuits s.list.items) };
+    ghost invariant = { λ s. AreOrdered (lists_of s.list.items) };
 }
 
 impl Seen {

@@ -10,7 +10,7 @@ use Rattle.qz_circ.specs.ProgramCircuits.{ProgramCircuit, cost, program_cmp}
 use Rattle.qz_circ.specs.Queue.{QueueList, IsQueue, different, firsts}
 use Rattle.qz_circ.proofs.ProgramOrder.{program_cmp_total, program_cmp_exact}
 use Rattle.qz_circ.specs.Search.{is_among, earliest}
-use Rattle.qz_queue.specs.Circuits.{circuits}
+use Rattle.qz_circ.specs.Vectors.{lists_of}
 use Rattle.qz_queue.proofs.DifferentOnes.{Has, Strict, first_twice, first_right, first_swap, different_same, has_append, has_left, has_right, has_different, different_has}
 use Rattle.qz_queue.proofs.QueueLists.{strict_circuits, queue_ordered}
 use Rattle.qz_search.specs.Offers.{is_new, offered_to}
@@ -56,15 +56,15 @@ drop_front : {A : Type 0} (vs : List (Vec Inst A)) (i : ℕ) (v : Vec Inst A) �
 drop_front vs i v l = let one : i + 1 ≡ suc i = omega arith in rw one (drop-cons vs i v l)
 
 -- circuits in vectors, one at a time
-pub in_batch : {A : Type 0} (vs : List (Vec Inst A)) (i : ℕ) (v : Vec Inst A) → i < length vs → v ≡ get_or vs i v → Contains (circuits vs) v.items
+pub in_batch : {A : Type 0} (vs : List (Vec Inst A)) (i : ℕ) (v : Vec Inst A) → i < length vs → v ≡ get_or vs i v → Contains (lists_of vs) v.items
 in_batch vs i v l e = (i, omega (arith, length-map vs (λ u. u.items)), get_or-map (λ u. u.items) vs i v v.items l ∙ (λ j. (sym e j).items))
 
-pub batch_front : {A : Type 0} (vs : List (Vec Inst A)) (i : ℕ) (v : Vec Inst A) → i < length vs → v ≡ get_or vs i v → circuits (drop i vs) ≡ v.items ∷ circuits (drop (i + 1) vs)
-batch_front vs i v l e = ap circuits (drop_front vs i v l) ∙ (λ j. (sym e j).items ∷ circuits (drop (i + 1) vs))
+pub batch_front : {A : Type 0} (vs : List (Vec Inst A)) (i : ℕ) (v : Vec Inst A) → i < length vs → v ≡ get_or vs i v → lists_of (drop i vs) ≡ v.items ∷ lists_of (drop (i + 1) vs)
+batch_front vs i v l e = ap lists_of (drop_front vs i v l) ∙ (λ j. (sym e j).items ∷ lists_of (drop (i + 1) vs))
 
-pub batch_more : {A : Type 0} (all : List ProgramCircuit) (vs : List (Vec Inst A)) (i : ℕ) (v : Vec Inst A) → i < length vs → v ≡ get_or vs i v → (all ++ circuits (take i vs)) ++ v.items ∷ [] ≡ all ++ circuits (take (i + 1) vs)
+pub batch_more : {A : Type 0} (all : List ProgramCircuit) (vs : List (Vec Inst A)) (i : ℕ) (v : Vec Inst A) → i < length vs → v ≡ get_or vs i v → (all ++ lists_of (take i vs)) ++ v.items ∷ [] ≡ all ++ lists_of (take (i + 1) vs)
 batch_more all vs i v l e =
-    append_assoc all (circuits (take i vs)) (v.items ∷ []) ∙ ap (λ cs. all ++ cs) ((λ j. circuits (take i vs) ++ (e j).items ∷ []) ∙ sym (map_more (λ u. u.items) vs i v l))
+    append_assoc all (lists_of (take i vs)) (v.items ∷ []) ∙ ap (λ cs. all ++ cs) ((λ j. lists_of (take i vs) ++ (e j).items ∷ []) ∙ sym (map_more (λ u. u.items) vs i v l))
 
 -- one more circuit in a set
 pub seen_step : (seen new xs : List ProgramCircuit) (c : ProgramCircuit) → seen ≡ different program_cmp xs → new ≡ different program_cmp (c ∷ seen) → new ≡ different program_cmp (xs ++ c ∷ [])

@@ -8,7 +8,7 @@ use Rattle.qz_circ.specs.Queue.{QueueList, IsQueue, different, firsts}
 use Rattle.qz_circ.specs.Replacement.{children}
 use Rattle.qz_circ.specs.Search.{PlanNumbers, IsPlan, start, after}
 use Rattle.qz_circ.specs.declared.circuit.Inst.{Inst}
-use Rattle.qz_queue.specs.Circuits.{circuits}
+use Rattle.qz_circ.specs.Vectors.{lists_of}
 use Rattle.qz_rewrite.specs.SoundClasses.{AreSoundClasses}
 use Rattle.qz_queue.proofs.DifferentOnes.{has_take}
 use Rattle.qz_search.specs.Offers.{IsAt}
@@ -87,9 +87,9 @@ module _ (classes : List (List Circuit)) (c : ProgramCircuit) where
       }
 
   -- what a round's beginning says where there is one
-  pub in_round : {A : Type 0} (plan : PlanNumbers) (s : SearchParts) (r : Option (Vec (Vec Inst A) A)) (batch : Vec (Vec Inst A) A) → MatchOption r (IsFound classes c plan s.best) (λ taken. IsInRound classes c (circuits taken.items) s) → r ≡ Some batch
-      → IsInRound classes c (circuits batch.items) s
-  in_round plan s r batch h e = subst (λ r. MatchOption r (IsFound classes c plan s.best) (λ taken. IsInRound classes c (circuits taken.items) s)) e h
+  pub in_round : {A : Type 0} (plan : PlanNumbers) (s : SearchParts) (r : Option (Vec (Vec Inst A) A)) (batch : Vec (Vec Inst A) A) → MatchOption r (IsFound classes c plan s.best) (λ taken. IsInRound classes c (lists_of taken.items) s) → r ≡ Some batch
+      → IsInRound classes c (lists_of batch.items) s
+  in_round plan s r batch h e = subst (λ r. MatchOption r (IsFound classes c plan s.best) (λ taken. IsInRound classes c (lists_of taken.items) s)) e h
 
   -- and where there is none, by the plan of the beginning
   pub is_found : {A : Type 0} (old plan : PlanNumbers) (best d : ProgramCircuit) (r : Option A) (P : A → Type 0) → MatchOption r (IsFound classes c old best) P → ((a : A) → r ≡ Some a → ⊥) → old ≡ plan → d ≡ best → IsFound classes c plan d

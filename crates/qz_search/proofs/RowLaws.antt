@@ -13,7 +13,7 @@ use Rattle.std.proofs.lemmas.List.{length-map}
 use Rattle.qz_circ.specs.declared.circuit.Op.{Op}
 use Rattle.qz_search.specs.declared.renaming.Renaming.{Renaming}
 use Rattle.qz_search.specs.declared.table.Side.{Side}
-use Rattle.qz_search.specs.Circuits.{rule_circuits}
+use Rattle.qz_circ.specs.Vectors.{lists_of}
 use Rattle.qz_search.specs.Classes.{AreRuleSides, children_of_some, children_with}
 use Rattle.qz_search.specs.Renamings.{circuit_by}
 use Rattle.qz_search.specs.Tables.{AreRights, IsRightAdded, IsTable}
@@ -24,17 +24,17 @@ use Rattle.qz_search.proofs.TableLaws.{right_added, rights_as, nothing_walked, t
 
 -- ---- members that are held in vectors
 
-pub member_is : (vs : List (Vec Op)) (i : ℕ) (v : Vec Op) → i < length vs → v ≡ get_or vs i v → v.items ≡ numbered (rule_circuits vs) i
+pub member_is : (vs : List (Vec Op)) (i : ℕ) (v : Vec Op) → i < length vs → v ≡ get_or vs i v → v.items ≡ numbered (lists_of vs) i
 member_is [] i v less e = absurd (omega arith)
 member_is (w ∷ vs) zero v less e = ap (λ u. u.items) e
 member_is (w ∷ vs) (suc i) v less e = member_is vs i v (omega arith) e
 
-pub within_circuits : (vs : List (Vec Op)) (i : ℕ) → i < length vs → i < length (rule_circuits vs)
+pub within_circuits : (vs : List (Vec Op)) (i : ℕ) → i < length vs → i < length (lists_of vs)
 within_circuits vs i less = omega (arith, length-map vs (λ v. v.items))
 
-pub side_at : (vs : List (Vec Op)) (i : ℕ) → i < length vs → AreRuleSides (rule_circuits vs) → IsOn 3 3 (numbered (rule_circuits vs) i) × (length (numbered (rule_circuits vs) i) ≤ 6)
+pub side_at : (vs : List (Vec Op)) (i : ℕ) → i < length vs → AreRuleSides (lists_of vs) → IsOn 3 3 (numbered (lists_of vs) i) × (length (numbered (lists_of vs) i) ≤ 6)
 side_at vs i less fit =
-    at_number (λ a. IsOn 3 3 a × (length a ≤ 6)) [] (rule_circuits vs) i fit (within_circuits vs i less)
+    at_number (λ a. IsOn 3 3 a × (length a ≤ 6)) [] (lists_of vs) i fit (within_circuits vs i less)
 
 pub member_on : (members : List Circuit) (i : ℕ) → i < length members → AreRuleSides members → IsOn 3 3 (numbered members i) × (length (numbered members i) ≤ 6)
 member_on members i less fit = at_number (λ a. IsOn 3 3 a × (length a ≤ 6)) [] members i fit less
@@ -91,17 +91,17 @@ row_taken old new names members i j left right rights after n first second fit l
     (λ c lawful. (λ k. children_by (left_is k) (right_is k) c) ∙ named_same names (numbered members i) (numbered members j) c (member_on members i first fit).0 (member_on members j second fit).0 lawful) h added)
 
 -- the circuit of a member, renamed
-pub named_member : (names : Renaming) (vs : List (Vec Op)) (j : ℕ) (v : Vec Op) (now named : Circuit) → j < length vs → v ≡ get_or vs j v → now ≡ v.items → named ≡ circuit_by names now → named ≡ circuit_by names (numbered (rule_circuits vs) j)
+pub named_member : (names : Renaming) (vs : List (Vec Op)) (j : ℕ) (v : Vec Op) (now named : Circuit) → j < length vs → v ≡ get_or vs j v → now ≡ v.items → named ≡ circuit_by names now → named ≡ circuit_by names (numbered (lists_of vs) j)
 named_member names vs j v now named less is same e = e ∙ ap (circuit_by names) (same ∙ member_is vs j v less is)
 
-pub named_fits : (names : Renaming) (vs : List (Vec Op)) (j : ℕ) (named : Circuit) → j < length vs → AreRuleSides (rule_circuits vs) → named ≡ circuit_by names (numbered (rule_circuits vs) j) → IsOn 3 3 named × (length named ≤ 6)
+pub named_fits : (names : Renaming) (vs : List (Vec Op)) (j : ℕ) (named : Circuit) → j < length vs → AreRuleSides (lists_of vs) → named ≡ circuit_by names (numbered (lists_of vs) j) → IsOn 3 3 named × (length named ≤ 6)
 named_fits names vs j named less fit e =
     let own = side_at vs j less fit in
-    (subst (IsOn 3 3) (sym e) (named_on names (numbered (rule_circuits vs) j) own.0), subst (λ a. length a ≤ 6) (sym e) (named_short names (numbered (rule_circuits vs) j) own.1))
+    (subst (IsOn 3 3) (sym e) (named_on names (numbered (lists_of vs) j) own.0), subst (λ a. length a ≤ 6) (sym e) (named_short names (numbered (lists_of vs) j) own.1))
 
-pub all_of_some : (circuits : List Circuit) (left : Circuit) (vs : List (Vec Op)) (i : ℕ) (rights : List ℕ) → AreRights circuits left rights (children_of_some (rule_circuits vs) i (below (length vs))) → AreRights circuits left rights (children_with (rule_circuits vs) i)
+pub all_of_some : (circuits : List Circuit) (left : Circuit) (vs : List (Vec Op)) (i : ℕ) (rights : List ℕ) → AreRights circuits left rights (children_of_some (lists_of vs) i (below (length vs))) → AreRights circuits left rights (children_with (lists_of vs) i)
 all_of_some circuits left vs i rights h =
-    subst (λ n. AreRights circuits left rights (children_of_some (rule_circuits vs) i (below n))) (sym (length-map vs (λ v. v.items))) h
+    subst (λ n. AreRights circuits left rights (children_of_some (lists_of vs) i (below n))) (sym (length-map vs (λ v. v.items))) h
 
 -- a member over which there is no walk is no left side
 none_comes : {A B : Type 0} (f : A → List B) (xs : List A) → AllByRecursion (λ x. f x ≡ []) xs → flat_map f xs ≡ []

@@ -5,10 +5,6 @@ use Rattle.qz_circ.specs.declared.circuit.Op.{Op}
 use Rattle.qz_circ.specs.Circuit.{Circuit}
 use Rattle.qz_circ.specs.Replacement.{numbered}
 
--- the circuits that these vectors hold
-abbrev pub rule_circuits : List (Vec Op) → List Circuit
-rule_circuits vectors = map (λ v. v.items) vectors
-
 -- the new ones are the old ones, and maybe more behind them
 pub record IsLonger (old new : List Circuit) : Type 0 where
   pub more : List Circuit

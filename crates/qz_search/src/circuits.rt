@@ -2,7 +2,8 @@
 ghost use Rattle.std.specs.Prelude.{◌≡◌, ◌≤◌, [], length, IsTrue, IfOk, IfSome};
 ghost use Rattle.std.specs.List.{slice_get};
 ghost use Rattle.qz_circ.specs.Replacement.{numbered};
-ghost use Rattle.qz_search.specs.Circuits.{rule_circuits, HasNumber};
+ghost use Rattle.qz_circ.specs.Vectors.{lists_of};
+ghost use Rattle.qz_search.specs.Circuits.{HasNumber};
 
 use qz_circ::{Memory, Op, prec};
 use std::alloc::Global;
@@ -18,11 +19,11 @@ pub(crate) struct Circuits {
 impl Model for Circuits {
     ghost use Rattle.std.specs.Prelude.{List};
     ghost use Rattle.qz_circ.specs.Circuit.{Circuit};
-    ghost use Rattle.qz_search.specs.Circuits.{rule_circuits};
+    ghost use Rattle.qz_circ.specs.Vectors.{lists_of};
 
     ghost Value = { List Circuit };
 
-    ghost view = { λ p. rule_circuits p.list.items };
+    ghost view = { λ p. lists_of p.list.items };
 }
 
 // The circuits are the same.
@@ -35,7 +36,7 @@ pub(crate) fn are_same(a: &[Op], c: &[Op]) -> bool
 
 // The circuit with this number; one without gates where there is none.
 fn circuit_at(list: &[Vec<Op>], k: usize) -> &[Op]
-    ensures { result.now ≡ numbered (rule_circuits list.now) k }
+    ensures { result.now ≡ numbered (lists_of list.now) k }
 {
     match list.get(k) {
         Some(c) => c,
@@ -55,7 +56,7 @@ fn position(list: &[Vec<Op>], order: &[usize], c: &[Op]) -> usize
 
 // The number at this position, where it is that of a circuit.
 fn number_at(list: &[Vec<Op>], order: &[usize], at: usize, c: &[Op]) -> Option<usize>
-    ensures { IfSome result (λ k. slice_get (rule_circuits list.now) k ≡ Some c.now) }
+    ensures { IfSome result (λ k. slice_get (lists_of list.now) k ≡ Some c.now) }
 {
     let k = *order.get(at)?;
     let known = list.get(k)?;

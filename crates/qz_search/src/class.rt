@@ -2,7 +2,7 @@
 ghost use Rattle.std.specs.Prelude.{◌≡◌, ◌<◌, ◌≤◌, length, IsTrue, IfOk, OnOk};
 ghost use Rattle.qz_circ.specs.RuleFiles.{numbered_class};
 ghost use Rattle.qz_circ.specs.Replacement.{children_in};
-ghost use Rattle.qz_search.specs.Circuits.{rule_circuits};
+ghost use Rattle.qz_circ.specs.Vectors.{lists_of};
 ghost use Rattle.qz_search.specs.Classes.{AreRuleSides, count_of, IsKept};
 ghost use Rattle.qz_search.specs.Tables.{AreAlike};
 
@@ -14,7 +14,7 @@ use std::alloc::Global;
 // The members of a class as circuits.
 pub(crate) fn members_of(alloc: Global, rules: &Rules, c: u64) -> Result<Vec<Vec<Op>>, Memory>
     requires { c < length rules.now.classes }
-    ensures { IfOk result (λ members. rule_circuits members.items ≡ numbered_class rules.now.classes c) }
+    ensures { IfOk result (λ members. lists_of members.items ≡ numbered_class rules.now.classes c) }
 {
     let mut members = Vec::new(alloc);
     for k in 0..rules.class_len(c) {
@@ -27,7 +27,7 @@ pub(crate) fn members_of(alloc: Global, rules: &Rules, c: u64) -> Result<Vec<Vec
 
 // The last two circuits are both this one.
 fn ends_twice(kept: &[Vec<Op>], c: &[Op]) -> bool
-    ensures { IsTrue result → 2 ≤ count_of c.now (rule_circuits kept.now) }
+    ensures { IsTrue result → 2 ≤ count_of c.now (lists_of kept.now) }
 {
     let n = kept.len();
     if n < 2 {
@@ -41,7 +41,7 @@ fn ends_twice(kept: &[Vec<Op>], c: &[Op]) -> bool
 
 // Puts a circuit behind others, unless they end with it twice.
 fn keep(kept: &mut Vec<Vec<Op>>, c: Vec<Op>) -> Result<(), Memory>
-    ensures { OnOk result (IsKept (rule_circuits kept.old.items) (rule_circuits kept.new.items) c.items) }
+    ensures { OnOk result (IsKept (lists_of kept.old.items) (lists_of kept.new.items) c.items) }
 {
     if ends_twice(kept, &c) {
         return Ok(());
@@ -52,9 +52,9 @@ fn keep(kept: &mut Vec<Vec<Op>>, c: Vec<Op>) -> Result<(), Memory>
 // The members in order, each at most twice. A circuit that stands in a class again makes a rule with itself, which has children
 // where it brings gates together; that it stands there once more gives nothing else.
 pub(crate) fn thinned(alloc: Global, members: Vec<Vec<Op>>) -> Result<Vec<Vec<Op>>, Memory>
-    requires fit { AreRuleSides (rule_circuits members.items) }
-    ensures fit { IfOk result (λ kept. AreRuleSides (rule_circuits kept.items)) }
-    ensures alike { IfOk result (λ kept. AreAlike (children_in (rule_circuits kept.items)) (children_in (rule_circuits members.items))) }
+    requires fit { AreRuleSides (lists_of members.items) }
+    ensures fit { IfOk result (λ kept. AreRuleSides (lists_of kept.items)) }
+    ensures alike { IfOk result (λ kept. AreAlike (children_in (lists_of kept.items)) (children_in (lists_of members.items))) }
 {
     let mut sorted = members;
     sorted.sort_unstable_by(|a, c| prec(a, c));

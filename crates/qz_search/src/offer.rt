@@ -4,7 +4,7 @@ ghost use Rattle.std.specs.List.{filter, flat_map};
 ghost use Rattle.qz_circ.specs.ProgramCircuits.{ProgramCircuit, program_cmp};
 ghost use Rattle.qz_circ.specs.Queue.{IsQueue, different};
 ghost use Rattle.qz_circ.specs.Search.{earliest};
-ghost use Rattle.qz_queue.specs.Circuits.{circuits};
+ghost use Rattle.qz_circ.specs.Vectors.{lists_of};
 ghost use Rattle.qz_search.specs.Offers.{is_new, offered_to, AreFit};
 ghost use Rattle.qz_search.specs.Tables.{children_by_table};
 
@@ -38,8 +38,8 @@ pub(crate) fn offer_batch(
     queue: &mut Queue,
 ) -> Result<(), Memory>
     requires lawful { IsQueue queue.old }
-    requires fit { AreFit (circuits batch.now) }
-    ensures { OnOk result (queue.new ≡ offered_to queue.old (filter (is_new test.now.seen test.now.most) (flat_map (children_by_table rules.now) (circuits batch.now)))) }
+    requires fit { AreFit (lists_of batch.now) }
+    ensures { OnOk result (queue.new ≡ offered_to queue.old (filter (is_new test.now.seen test.now.most) (flat_map (children_by_table rules.now) (lists_of batch.now)))) }
 {
     let mut neighbours = Neighbours::of(alloc, &[])?;
     for c in batch {
@@ -50,7 +50,7 @@ pub(crate) fn offer_batch(
 
 // Puts these circuits into a set.
 pub(crate) fn add_all(alloc: Global, seen: &mut Seen, batch: &[Vec<Inst>]) -> Result<(), Memory>
-    ensures { OnOk result ((all : List ProgramCircuit) → seen.old ≡ different program_cmp all → seen.new ≡ different program_cmp (all ++ circuits batch.now)) }
+    ensures { OnOk result ((all : List ProgramCircuit) → seen.old ≡ different program_cmp all → seen.new ≡ different program_cmp (all ++ lists_of batch.now)) }
 {
     for c in batch {
         seen.insert(copy_of(alloc, c)?)?;

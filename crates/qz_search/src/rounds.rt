@@ -7,7 +7,7 @@ ghost use Rattle.qz_circ.specs.ProgramCircuits.{ProgramCircuit, IsProgramGate, E
 ghost use Rattle.qz_circ.specs.Queue.{IsQueue};
 ghost use Rattle.qz_circ.specs.Replacement.{children};
 ghost use Rattle.qz_circ.specs.Search.{earliest, best_found, IsComplete, IsReached};
-ghost use Rattle.qz_queue.specs.Circuits.{circuits};
+ghost use Rattle.qz_circ.specs.Vectors.{lists_of};
 ghost use Rattle.qz_search.specs.Offers.{is_new, offered_to, AreFit};
 ghost use Rattle.qz_search.specs.Tables.{children_by_table};
 ghost use Rattle.qz_search.specs.Rounds.{new_children, advanced, IsBetweenRounds, IsInRound, IsFound};
@@ -82,7 +82,7 @@ impl Rounds {
     /// circuit so far is the one that the search finds.
     pub fn take_batch(&mut self, alloc: Global) -> Result<Option<Vec<Vec<Inst>>>, Memory>
         requires { length self.old.best ≤ most_gates }
-        ensures found { (classes : List (List Circuit)) (c : ProgramCircuit) → IsBetweenRounds classes c self.old → IfOk result (λ taken. MatchOption taken (IsFound classes c self.old.plan self.new.best) (λ batch. IsInRound classes c (circuits batch.items) self.new)) }
+        ensures found { (classes : List (List Circuit)) (c : ProgramCircuit) → IsBetweenRounds classes c self.old → IfOk result (λ taken. MatchOption taken (IsFound classes c self.old.plan self.new.best) (λ batch. IsInRound classes c (lists_of batch.items) self.new)) }
         ensures left { IfOk result (λ taken. IfSome taken (λ batch. self.new.left + 1 ≡ self.old.left)) }
         ensures plan { self.new.plan ≡ self.old.plan }
     {
@@ -116,8 +116,8 @@ impl Rounds {
     // Ends a round with the children of the circuits that it took.
     fn offer_batch(&mut self, alloc: Global, batch: &[Vec<Inst>]) -> Result<(), Memory>
         requires lawful { IsQueue self.old.queue }
-        requires fit { AreFit (circuits batch.now) }
-        ensures { OnOk result (self.new ≡ advanced self.old (new_children self.old (circuits batch.now))) }
+        requires fit { AreFit (lists_of batch.now) }
+        ensures { OnOk result (self.new ≡ advanced self.old (new_children self.old (lists_of batch.now))) }
     {
         offer_batch(alloc, &self.rules, &self.test, batch, &mut self.queue)?;
         self.best = earlier(alloc, &self.best, &self.queue)?;

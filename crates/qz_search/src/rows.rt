@@ -4,7 +4,8 @@ ghost use Rattle.qz_circ.specs.Circuit.{IsOn, below};
 ghost use Rattle.qz_circ.specs.Places.{is_connected};
 ghost use Rattle.qz_circ.specs.ProgramCircuits.{ProgramCircuit};
 ghost use Rattle.qz_circ.specs.Replacement.{numbered, children_in};
-ghost use Rattle.qz_search.specs.Circuits.{rule_circuits, IsLonger};
+ghost use Rattle.qz_circ.specs.Vectors.{lists_of};
+ghost use Rattle.qz_search.specs.Circuits.{IsLonger};
 ghost use Rattle.qz_search.specs.Classes.{AreRuleSides, children_of_some, children_with};
 ghost use Rattle.qz_search.specs.Renamings.{circuit_by};
 ghost use Rattle.qz_search.specs.Tables.{IsTable, AreRights, IsRightAdded};
@@ -57,11 +58,11 @@ fn rights_of(
     circuits: &mut Circuits,
 ) -> Result<Vec<usize>, Memory>
     requires within { i < length members.now }
-    requires fit { AreRuleSides (rule_circuits members.now) }
-    requires left { left.now ≡ circuit_by names (numbered (rule_circuits members.now) i) }
+    requires fit { AreRuleSides (lists_of members.now) }
+    requires left { left.now ≡ circuit_by names (numbered (lists_of members.now) i) }
     requires walked { true ≡ (nat_lt 0 (length left.now) && is_connected left.now) }
     ensures longer { OnOk result (IsLonger circuits.old circuits.new) }
-    ensures rights { IfOk result (λ rights. AreRights circuits.new left.now rights.items (children_of_some (rule_circuits members.now) i (below (length members.now)))) }
+    ensures rights { IfOk result (λ rights. AreRights circuits.new left.now rights.items (children_of_some (lists_of members.now) i (below (length members.now)))) }
 {
     let mut rights = Vec::new(alloc);
     for j in 0..members.len() {
@@ -87,8 +88,8 @@ impl Rows {
     // Adds the rules with the member with number i as their left side.
     fn add_row(&mut self, alloc: Global, members: &[Vec<Op>], i: usize) -> Result<(), Memory>
         requires within { i < length members.now }
-        requires fit { AreRuleSides (rule_circuits members.now) }
-        ensures { (before : ProgramCircuit → List ProgramCircuit) → IsTable self.old.circuits self.old.sides.items before → OnOk result (IsTable self.new.circuits self.new.sides.items (λ c. before c ++ children_with (rule_circuits members.now) i c)) }
+        requires fit { AreRuleSides (lists_of members.now) }
+        ensures { (before : ProgramCircuit → List ProgramCircuit) → IsTable self.old.circuits self.old.sides.items before → OnOk result (IsTable self.new.circuits self.new.sides.items (λ c. before c ++ children_with (lists_of members.now) i c)) }
     {
         let names = Renaming::of(&members[i]);
         let left = names.circuit(alloc, &members[i])?;
@@ -106,8 +107,8 @@ impl Rows {
 
     // Adds the rules of a class.
     pub(crate) fn add_class(&mut self, alloc: Global, members: &[Vec<Op>]) -> Result<(), Memory>
-        requires { AreRuleSides (rule_circuits members.now) }
-        ensures { (before : ProgramCircuit → List ProgramCircuit) → IsTable self.old.circuits self.old.sides.items before → OnOk result (IsTable self.new.circuits self.new.sides.items (λ c. before c ++ children_in (rule_circuits members.now) c)) }
+        requires { AreRuleSides (lists_of members.now) }
+        ensures { (before : ProgramCircuit → List ProgramCircuit) → IsTable self.old.circuits self.old.sides.items before → OnOk result (IsTable self.new.circuits self.new.sides.items (λ c. before c ++ children_in (lists_of members.now) c)) }
     {
         for i in 0..members.len() {
             self.add_row(alloc, members, i)?;

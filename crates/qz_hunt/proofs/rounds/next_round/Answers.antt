@@ -1,7 +1,7 @@
 use Rattle.std.proofs.Common.{◌≡◌, ◌<◌, ℕ, length, ap, subst, ◌∙◌, arith}
 use Rattle.std.specs.Prelude.{IfOk}
 use Rattle.std.proofs.lemmas.List.{length-map}
-use Rattle.qz_queue.specs.Circuits.{circuits}
+use Rattle.qz_circ.specs.Vectors.{lists_of}
 use Rattle.qz_circ.specs.Search.{earliest}
 use Rattle.qz_seats.specs.Views.{draws}
 use Rattle.qz_hunt.specs.Gathered.{RoundParts, IsGathered}
@@ -11,7 +11,7 @@ use Rattle.qz_hunt.proofs.rounds.next_round.Goals as goal
 pub returns : goal.returns
 returns g c =
     let search = c.args.search in
-    let batch = circuits c.args.batch.items in
+    let batch = lists_of c.args.batch.items in
     let r : RoundParts = record { search = search; batch = batch; seats = c.in_ok-seats.seats } in
     let view = c.crew-pass.result.0.view in
     let found = c.in_ok-found.field-0 in

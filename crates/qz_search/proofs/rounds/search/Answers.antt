@@ -1,5 +1,5 @@
 use Rattle.std.proofs.Common.{◌≡◌, ap, sym, subst, ◌∙◌}
-use Rattle.qz_queue.specs.Circuits.{circuits}
+use Rattle.qz_circ.specs.Vectors.{lists_of}
 use Rattle.qz_search.specs.Rounds.{new_children, advanced, IsBetweenRounds}
 use Rattle.qz_search.proofs.RoundSteps.{in_round, is_found}
 use Rattle.qz_search.proofs.rounds.search.Goals as goal
@@ -16,7 +16,7 @@ pub loop-rounds-preserved : goal.loop-rounds-preserved
 loop-rounds-preserved c =
     let rules = c.args.rules.now.classes in
     let within = in_round rules c.args.c.now c.loop-rounds.rounds.plan c.take_batch.new.self c.in_ok-batch.field-0 c.in-Some.batch (c.in_ok-batch.ensures.found rules c.args.c.now c.loop-rounds.invariant.0) c.in-Some.is in
-    let ends : c.offer_batch.new.self ≡ advanced c.take_batch.new.self (new_children c.take_batch.new.self (circuits c.in-Some.batch.items)) = rw c.deref.ensures.value at c.in_ok-offer_batch.ensures in
+    let ends : c.offer_batch.new.self ≡ advanced c.take_batch.new.self (new_children c.take_batch.new.self (lists_of c.in-Some.batch.items)) = rw c.deref.ensures.value at c.in_ok-offer_batch.ensures in
     (subst (IsBetweenRounds rules c.args.c.now) (sym ends) within.further, ap (λ s. s.plan) ends ∙ c.take_batch.ensures.plan ∙ c.loop-rounds.invariant.1)
 
 pub returns-clause-best : goal.returns-clause-best

@@ -1,6 +1,7 @@
 use Rattle.std.proofs.Common.{◌+◌, sym, subst}
 use Rattle.qz_circ.specs.Circuit.{below}
-use Rattle.qz_search.specs.Circuits.{rule_circuits, IsLonger}
+use Rattle.qz_circ.specs.Vectors.{lists_of}
+use Rattle.qz_search.specs.Circuits.{IsLonger}
 use Rattle.qz_search.specs.Classes.{children_of_some}
 use Rattle.qz_search.specs.Tables.{AreRights}
 use Rattle.qz_search.proofs.Numbers.{longer_still}
@@ -26,7 +27,7 @@ add_right-requires-clause-right_short c =
 pub loop-j-preserved : goal.loop-j-preserved
 loop-j-preserved c =
     let vs = c.args.members.now in
-    let members = rule_circuits vs in
+    let members = lists_of vs in
     let i = c.args.i in
     let j = c.loop-j.j in
     let left = c.args.left.now in

@@ -1,5 +1,5 @@
 use Rattle.std.proofs.Common.{◌≡◌, sym, ap, ◌∙◌, arith}
-use Rattle.qz_queue.specs.Circuits.{circuits}
+use Rattle.qz_circ.specs.Vectors.{lists_of}
 use Rattle.qz_hunt.specs.Gathered.{RoundParts, gathered}
 use Rattle.qz_hunt.proofs.GatherLemmas.{circuit_at, drew_one}
 use Rattle.qz_hunt.proofs.gather.Round.turn.Goals as goal
@@ -7,7 +7,7 @@ use Rattle.qz_hunt.proofs.gather.Round.turn.Goals as goal
 pub returns-clause-all : goal.returns-clause-all
 returns-clause-all g c =
     let inside = c.self.inside in
-    let r : RoundParts = record { search = inside.search; batch = circuits inside.batch.items; seats = inside.seats } in
+    let r : RoundParts = record { search = inside.search; batch = lists_of inside.batch.items; seats = inside.seats } in
     let view : c.args.self.now ≡ r = sym c.self.view_is in
     let n = c.in-Some.n in
     let old = c.args.pass.now.view in

@@ -1,12 +1,12 @@
 use Rattle.std.proofs.Common.{◌≡◌, ◌≤◌, ◌-◌, [], length, get_or, arith}
 use Rattle.std.proofs.lemmas.List.{length-map}
 use Rattle.qz_circ.specs.ProgramCircuits.{cost}
-use Rattle.qz_queue.specs.Circuits.{circuits}
+use Rattle.qz_circ.specs.Vectors.{lists_of}
 use Rattle.qz_queue.specs.HeldQueue.{queue_of}
 use Rattle.qz_queue.proofs.Costs.{closed_exact, closed_refuses, last_of}
 use Rattle.qz_queue.proofs.queue.Queue.is_closed_to_cost.Goals as goal
 
-last_cost : (c : goal.After-len-in-Some) → c.len-in-Some.result ≡ cost (get_or (circuits c.self.inside.list.items) (length (circuits c.self.inside.list.items) - 1) [])
+last_cost : (c : goal.After-len-in-Some) → c.len-in-Some.result ≡ cost (get_or (lists_of c.self.inside.list.items) (length (lists_of c.self.inside.list.items) - 1) [])
 last_cost c =
     last_of c.self.inside.list.items c.in-Some.c.now c.len-in-Some.result (rw c.deref.ensures.value at c.in-Some.ensures.item.3.0) (λ d. rw c.deref.ensures.value at (c.in-Some.ensures.item.3.1 d)) c.len-in-Some.ensures
 

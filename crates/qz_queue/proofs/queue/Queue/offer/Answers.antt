@@ -1,7 +1,8 @@
 use Rattle.std.proofs.Common.{◌≡◌, ◌≤◌, ◌∷◌, true, false, true≢false, refl, sym, ◌∙◌, inl, inr, arith}
 use Rattle.qz_circ.specs.Search.{is_among}
 use Rattle.qz_circ.specs.Queue.{firsts}
-use Rattle.qz_queue.specs.Circuits.{circuits, place_of}
+use Rattle.qz_circ.specs.Vectors.{lists_of}
+use Rattle.qz_queue.specs.Circuits.{place_of}
 use Rattle.qz_queue.specs.HeldQueue.{queue_of}
 use Rattle.qz_queue.proofs.QueueLists.{list_put, held_first, early, queue_ordered, offer_late, offer_there, same_list, among_contains, accepted}
 use Rattle.qz_queue.proofs.queue.Queue.offer.Goals as goal
@@ -11,26 +12,26 @@ find-place-requires c = rw c.deref.ensures.value (queue_ordered _ _ c.self.invar
 
 pub returns-then-place-self-clause-list : goal.returns-then-place-self-clause-list
 returns-then-place-self-clause-list c =
-    let cs = circuits c.self.inside.list.items in
+    let cs = lists_of c.self.inside.list.items in
     let at : c.find-place.result.0 ≡ place_of cs c.args.c.items = rw (c.deref.ensures.value, c.deref-2.ensures.value) at c.find-place.ensures.place in
     let late : c.self.inside.cap ≤ place_of cs c.args.c.items = omega (arith, at, c.if-place-self.true) in
     rw (← c.self.view_is) (same_list _ _ (offer_late c.self.inside.cap cs c.args.c.items c.self.invariant.lawful.ordered late))
 
 pub returns-then-place-self-clause-refused : goal.returns-then-place-self-clause-refused
 returns-then-place-self-clause-refused c =
-    let cs = circuits c.self.inside.list.items in
+    let cs = lists_of c.self.inside.list.items in
     let at : c.find-place.result.0 ≡ place_of cs c.args.c.items = rw (c.deref.ensures.value, c.deref-2.ensures.value) at c.find-place.ensures.place in
     rw (← c.self.view_is) (λ _. inr (omega (arith, at, c.if-place-self.true)), λ _. refl)
 
 pub returns-then-found-clause-list : goal.returns-then-found-clause-list
 returns-then-found-clause-list c =
-    let cs = circuits c.self.inside.list.items in
+    let cs = lists_of c.self.inside.list.items in
     let there : is_among cs c.args.c.items ≡ true = rw (c.deref.ensures.value, c.deref-2.ensures.value) at (sym c.find-place.ensures.there ∙ c.if-found.true) in
     rw (← c.self.view_is) (same_list _ _ (offer_there c.self.inside.cap cs c.args.c.items c.self.invariant.lawful.ordered there))
 
 pub returns-then-found-clause-refused : goal.returns-then-found-clause-refused
 returns-then-found-clause-refused c =
-    let cs = circuits c.self.inside.list.items in
+    let cs = lists_of c.self.inside.list.items in
     let there : is_among cs c.args.c.items ≡ true = rw (c.deref.ensures.value, c.deref-2.ensures.value) at (sym c.find-place.ensures.there ∙ c.if-found.true) in
     rw (← c.self.view_is) (λ _. inl (among_contains cs c.args.c.items there), λ _. refl)
 
@@ -38,16 +39,16 @@ pub put-requires-clause-below : goal.put-requires-clause-below
 put-requires-clause-below c =
     early c.self.inside.cap c.self.inside.list.items c.find-place.result.0 c.self.invariant.lawful.ordered (rw c.deref.ensures.value at c.find-place.ensures.bound) c.if-place-self.false
 
-put_list : (c : goal.After-put) → circuits c.put.new.list.items ≡ firsts c.self.inside.cap (c.args.c.items ∷ circuits c.self.inside.list.items)
+put_list : (c : goal.After-put) → lists_of c.put.new.list.items ≡ firsts c.self.inside.cap (c.args.c.items ∷ lists_of c.self.inside.list.items)
 put_list c =
-    let cs = circuits c.self.inside.list.items in
+    let cs = lists_of c.self.inside.list.items in
     let at : c.find-place.result.0 ≡ place_of cs c.args.c.items = rw (c.deref.ensures.value, c.deref-2.ensures.value) at c.find-place.ensures.place in
     let missing : is_among cs c.args.c.items ≡ false = rw (c.deref.ensures.value, c.deref-2.ensures.value) at (sym c.find-place.ensures.there ∙ c.if-found.false) in
     list_put c.self.inside.cap c.self.inside.list.items c.args.c c.find-place.result.0 c.put.new.list.items c.self.invariant.lawful.ordered at (rw c.deref.ensures.value at c.find-place.ensures.bound) c.if-place-self.false missing c.put.ensures.items
 
 pub invariant_of-self : goal.invariant_of-self
 invariant_of-self c =
-    held_first c.self.inside.cap c.self.inside.list c.put.new.list (c.args.c.items ∷ circuits c.self.inside.list.items) c.self.invariant (put_list c) c.put.ensures.room
+    held_first c.self.inside.cap c.self.inside.list c.put.new.list (c.args.c.items ∷ lists_of c.self.inside.list.items) c.self.invariant (put_list c) c.put.ensures.room
 
 pub returns-clause-list : goal.returns-clause-list
 returns-clause-list c =

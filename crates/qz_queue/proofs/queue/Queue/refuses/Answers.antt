@@ -1,7 +1,8 @@
 use Rattle.std.proofs.Common.{◌≡◌, ◌≤◌, false, sym, ◌∙◌, arith}
 use Rattle.std.proofs.lemmas.Bool.{eqb-true}
 use Rattle.qz_circ.specs.Search.{is_among}
-use Rattle.qz_queue.specs.Circuits.{circuits, place_of}
+use Rattle.qz_circ.specs.Vectors.{lists_of}
+use Rattle.qz_queue.specs.Circuits.{place_of}
 use Rattle.qz_queue.specs.HeldQueue.{queue_of}
 use Rattle.qz_queue.proofs.QueueLists.{queue_ordered, offer_late, offer_there, there_refused, late_refused}
 use Rattle.qz_queue.proofs.queue.Queue.refuses.Goals as goal
@@ -17,7 +18,7 @@ returns-then-found-clause-exact c =
 
 pub returns-then-found-clause-same : goal.returns-then-found-clause-same
 returns-then-found-clause-same c =
-    let cs = circuits c.self.inside.list.items in
+    let cs = lists_of c.self.inside.list.items in
     let there : c.find-place.result.1 ≡ is_among cs c.args.c.now = rw c.deref.ensures.value at c.find-place.ensures.there in
     rw (← c.self.view_is) (λ h. offer_there c.self.inside.cap cs c.args.c.now c.self.invariant.lawful.ordered (sym there ∙ h))
 
@@ -31,6 +32,6 @@ returns-else-found-clause-exact c =
 
 pub returns-else-found-clause-same : goal.returns-else-found-clause-same
 returns-else-found-clause-same c =
-    let cs = circuits c.self.inside.list.items in
+    let cs = lists_of c.self.inside.list.items in
     let at : c.find-place.result.0 ≡ place_of cs c.args.c.now = rw c.deref.ensures.value at c.find-place.ensures.place in
     rw (← c.self.view_is) (λ h. let same = eqb-true c.find-place.result.0 c.self.inside.cap h in let late : c.self.inside.cap ≤ place_of cs c.args.c.now = omega (arith, at, same) in offer_late c.self.inside.cap cs c.args.c.now c.self.invariant.lawful.ordered late)

@@ -2,7 +2,7 @@ use Rattle.std.proofs.Common.{◌++◌, take, sym, subst, rules, arith}
 use Rattle.std.proofs.lemmas.List.{take_all}
 use Rattle.qz_circ.specs.Bounds.{IsLawful}
 use Rattle.qz_circ.specs.Replacement.{children, children_in}
-use Rattle.qz_search.specs.Circuits.{rule_circuits}
+use Rattle.qz_circ.specs.Vectors.{lists_of}
 use Rattle.qz_search.specs.Classes.{AreRuleSides}
 use Rattle.qz_search.specs.Tables.{IsTable}
 use Rattle.qz_search.proofs.ClassLimits.{rule_sides, sound_classes}
@@ -25,12 +25,12 @@ loop-c-preserved c =
     let rows = c.add_class.new.self in
     let classes = c.args.rules.now.classes in
     let k = c.loop-c.c in
-    let members = rule_circuits c.in_ok-members_of.field-0.items in
-    let kept = rule_circuits c.in_ok-members.members.items in
+    let members = lists_of c.in_ok-members_of.field-0.items in
+    let kept = lists_of c.in_ok-members.members.items in
     let before = children (take k classes) in
     let added = c.in_ok-add_class.ensures before c.loop-c.invariant in
     class_added rows.circuits rows.sides.items classes k members kept (omega (arith, c.loop-c-test.true, c.len-c-end.ensures.len)) c.in_ok-members_of.ensures c.in_ok-members.ensures.alike
-    (subst (λ vs. IsTable rows.circuits rows.sides.items (λ p. before p ++ children_in (rule_circuits vs) p)) c.deref.ensures.value added)
+    (subst (λ vs. IsTable rows.circuits rows.sides.items (λ p. before p ++ children_in (lists_of vs) p)) c.deref.ensures.value added)
 
 pub invariant_of-result : goal.invariant_of-result
 invariant_of-result c =

@@ -4,7 +4,7 @@ use Rattle.std.proofs.lemmas.List.{length-map}
 use Rattle.qz_circ.specs.Circuit.{below}
 use Rattle.qz_circ.specs.ProgramCircuits.{ProgramCircuit}
 use Rattle.qz_circ.specs.Replacement.{children_in}
-use Rattle.qz_search.specs.Circuits.{rule_circuits}
+use Rattle.qz_circ.specs.Vectors.{lists_of}
 use Rattle.qz_search.specs.Classes.{children_with}
 use Rattle.qz_search.specs.Tables.{IsTable}
 use Rattle.qz_search.proofs.Alike.{alike_same}
@@ -14,7 +14,7 @@ use Rattle.qz_search.proofs.rows.Rows.add_class.Goals as goal
 
 pub loop-i-preserved : goal.loop-i-preserved
 loop-i-preserved c = λ before h.
-    let members = rule_circuits c.args.members.now in
+    let members = lists_of c.args.members.now in
     let i = c.loop-i.i in
     let new = c.add_row.new.self in
     let so_far : ℕ → ProgramCircuit → List ProgramCircuit = λ n p. before p ++ flat_map (λ k. children_with members k p) (below n) in
@@ -24,7 +24,7 @@ loop-i-preserved c = λ before h.
 pub returns : goal.returns
 returns c = λ before h.
     let vs = c.args.members.now in
-    let members = rule_circuits vs in
+    let members = lists_of vs in
     let self = c.loop-i.self in
     let so_far : ℕ → ProgramCircuit → List ProgramCircuit = λ n p. before p ++ flat_map (λ k. children_with members k p) (below n) in
     let done : c.loop-i.i ≡ length vs = search rules in
