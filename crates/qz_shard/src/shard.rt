@@ -16,13 +16,14 @@ use std::sync::ledger::Ledger;
 
 /// The ranks of circuits in the order in which they came, and their classes of equivalent circuits. All circuits are
 /// within the same bounds, and their fingerprints have the same remainder by 16, the shard's number. The ranks of a class rise, and the
-/// classes stand in the order in which the earliest circuit of each came; so the number of a class never changes.
+/// classes stand in the order in which the earliest circuit of each came; so the number of a class never changes. Of the probe it keeps
+/// the seed alone, from which it is made again where a fingerprint isn't at hand: so a shard is small, and moves at little cost.
 #[derive(Drop)]
 pub struct Shard {
     alloc: Global,
     number: u64,
     bounds: Bounds,
-    probe: Probe,
+    seed: u64,
     journal: Vec<u64>,
     classes: Vec<Class>,
     newest: IndexMap<u64, usize>,
@@ -35,9 +36,9 @@ impl Model for Shard {
 
     ghost use Rattle.qz_shard.specs.Held.{IsHeld};
 
-    ghost view = { λ s. record { number = s.number; bounds = s.bounds; probe = s.probe; journal = s.journal.items } };
+    ghost view = { λ s. record { number = s.number; bounds = s.bounds; probe = record { seed = s.seed; q = s.bounds.q }; journal = s.journal.items } };
 
-    ghost invariant = { λ s. IsHeld (record { number = s.number; bounds = s.bounds; probe = s.probe; journal = s.journal.items }) s.classes.items s.newest };
+    ghost invariant = { λ s. IsHeld (record { number = s.number; bounds = s.bounds; probe = record { seed = s.seed; q = s.bounds.q }; journal = s.journal.items }) s.classes.items s.newest };
 }
 
 impl Shard {
@@ -51,7 +52,7 @@ impl Shard {
             alloc,
             number,
             bounds: b,
-            probe,
+            seed: probe.seed(),
             journal: Vec::new(alloc),
             classes: Vec::new(alloc),
             newest: IndexMap::new(alloc),
@@ -72,7 +73,8 @@ impl Shard {
         ensures counted { (classes : List (List ℕ)) → AreClassesOf self.old.bounds self.old.journal classes → steps.new ≤ steps.old + classes_with self.old (print_at self.old.bounds self.old.probe.seed r) classes }
     {
         let circuit = unrank(self.alloc, r, self.bounds)?;
-        let print = self.probe.finger(&circuit);
+        let probe = Probe::new(self.seed, self.bounds.q());
+        let print = probe.finger(&circuit);
         let place = self.add_with_print(r, print, steps)?;
         Ok(place)
     }

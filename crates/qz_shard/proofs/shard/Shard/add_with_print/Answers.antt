@@ -8,29 +8,29 @@ use Rattle.qz_shard.proofs.shard.Shard.add_with_print.Goals as goal
 -- the classes may be searched
 pub find_class-requires-clause-members : goal.find_class-requires-clause-members
 find_class-requires-clause-members g c =
-    let s : ShardParts = record { number = c.self.inside.number; bounds = c.self.inside.bounds; probe = c.self.inside.probe; journal = c.self.inside.journal.items } in
+    let s : ShardParts = record { number = c.self.inside.number; bounds = c.self.inside.bounds; probe = record { seed = c.self.inside.seed; q = c.self.inside.bounds.q }; journal = c.self.inside.journal.items } in
     subst (λ xs. All (HasMembers c.self.inside.bounds) (members_in xs)) (sym c.deref.ensures.value) (search_members s c.self.inside.classes.items c.self.inside.newest c.self.invariant)
 
 -- only those with the fingerprint were
 pub returns-in_err-found-clause-counted : goal.returns-in_err-found-clause-counted
 returns-in_err-found-clause-counted g c lists are =
-    let s : ShardParts = record { number = c.self.inside.number; bounds = c.self.inside.bounds; probe = c.self.inside.probe; journal = c.self.inside.journal.items } in
+    let s : ShardParts = record { number = c.self.inside.number; bounds = c.self.inside.bounds; probe = record { seed = c.self.inside.seed; q = c.self.inside.bounds.q }; journal = c.self.inside.journal.items } in
     steps_counted s c.self.inside.classes.items c.self.inside.newest c.self.invariant c.args.print c.args.steps.now c.find_class.new.steps c.deref.result.now c.deref.ensures.value c.in_err-found.ensures.counted c.args.self.now c.self.view_is lists are
 
 pub returns-in_err-put-clause-counted : goal.returns-in_err-put-clause-counted
 returns-in_err-put-clause-counted g c lists are =
-    let s : ShardParts = record { number = c.self.inside.number; bounds = c.self.inside.bounds; probe = c.self.inside.probe; journal = c.self.inside.journal.items } in
+    let s : ShardParts = record { number = c.self.inside.number; bounds = c.self.inside.bounds; probe = record { seed = c.self.inside.seed; q = c.self.inside.bounds.q }; journal = c.self.inside.journal.items } in
     steps_counted s c.self.inside.classes.items c.self.inside.newest c.self.invariant c.args.print c.args.steps.now c.find_class.new.steps c.deref.result.now c.deref.ensures.value c.in_ok-found.ensures.counted c.args.self.now c.self.view_is lists are
 
 pub returns-clause-counted : goal.returns-clause-counted
 returns-clause-counted g c lists are =
-    let s : ShardParts = record { number = c.self.inside.number; bounds = c.self.inside.bounds; probe = c.self.inside.probe; journal = c.self.inside.journal.items } in
+    let s : ShardParts = record { number = c.self.inside.number; bounds = c.self.inside.bounds; probe = record { seed = c.self.inside.seed; q = c.self.inside.bounds.q }; journal = c.self.inside.journal.items } in
     steps_counted s c.self.inside.classes.items c.self.inside.newest c.self.invariant c.args.print c.args.steps.now c.find_class.new.steps c.deref.result.now c.deref.ensures.value c.in_ok-found.ensures.counted c.args.self.now c.self.view_is lists are
 
 -- the class that was found takes the rank in
 pub put-requires : goal.put-requires
 put-requires g c =
-    let s : ShardParts = record { number = c.self.inside.number; bounds = c.self.inside.bounds; probe = c.self.inside.probe; journal = c.self.inside.journal.items } in
+    let s : ShardParts = record { number = c.self.inside.number; bounds = c.self.inside.bounds; probe = record { seed = c.self.inside.seed; q = c.self.inside.bounds.q }; journal = c.self.inside.journal.items } in
     open_to s c.self.inside.classes.items c.self.inside.newest c.self.invariant c.args.r c.args.print c.in_ok-found.found
     (subst (λ x. Contains x.journal c.args.r → ⊥) (sym c.self.view_is) c.requires.new)
     (subst (λ xs. IsClassWith c.self.inside.bounds xs c.args.print c.args.r c.in_ok-found.found) c.deref.ensures.value c.in_ok-found.ensures.found)
@@ -38,7 +38,7 @@ put-requires g c =
 -- and what is kept fits the longer journal
 pub invariant_of-self-2 : goal.invariant_of-self-2
 invariant_of-self-2 g c =
-    let s : ShardParts = record { number = c.self.inside.number; bounds = c.self.inside.bounds; probe = c.self.inside.probe; journal = c.self.inside.journal.items } in
+    let s : ShardParts = record { number = c.self.inside.number; bounds = c.self.inside.bounds; probe = record { seed = c.self.inside.seed; q = c.self.inside.bounds.q }; journal = c.self.inside.journal.items } in
     held_after s c.self.inside.classes.items c.self.inside.newest c.self.invariant c.args.r c.args.print c.in_ok-found.found
     (subst (λ x. c.args.print ≡ print_at x.bounds x.probe.seed c.args.r) (sym c.self.view_is) c.requires.print)
     (subst (λ x. c.args.r < length (all_circuits x.bounds)) (sym c.self.view_is) c.requires.listed)
@@ -49,15 +49,15 @@ invariant_of-self-2 g c =
 
 pub returns-in_err-found-clause-few : goal.returns-in_err-found-clause-few
 returns-in_err-found-clause-few g c =
-    let s : ShardParts = record { number = c.self.inside.number; bounds = c.self.inside.bounds; probe = c.self.inside.probe; journal = c.self.inside.journal.items } in
+    let s : ShardParts = record { number = c.self.inside.number; bounds = c.self.inside.bounds; probe = record { seed = c.self.inside.seed; q = c.self.inside.bounds.q }; journal = c.self.inside.journal.items } in
     steps_few s c.self.inside.classes.items c.self.inside.newest c.self.invariant c.args.print c.args.steps.now c.find_class.new.steps c.deref.result.now c.deref.ensures.value c.in_err-found.ensures.counted c.args.self.now c.self.view_is
 
 pub returns-in_err-put-clause-few : goal.returns-in_err-put-clause-few
 returns-in_err-put-clause-few g c =
-    let s : ShardParts = record { number = c.self.inside.number; bounds = c.self.inside.bounds; probe = c.self.inside.probe; journal = c.self.inside.journal.items } in
+    let s : ShardParts = record { number = c.self.inside.number; bounds = c.self.inside.bounds; probe = record { seed = c.self.inside.seed; q = c.self.inside.bounds.q }; journal = c.self.inside.journal.items } in
     steps_few s c.self.inside.classes.items c.self.inside.newest c.self.invariant c.args.print c.args.steps.now c.find_class.new.steps c.deref.result.now c.deref.ensures.value c.in_ok-found.ensures.counted c.args.self.now c.self.view_is
 
 pub returns-clause-few : goal.returns-clause-few
 returns-clause-few g c =
-    let s : ShardParts = record { number = c.self.inside.number; bounds = c.self.inside.bounds; probe = c.self.inside.probe; journal = c.self.inside.journal.items } in
+    let s : ShardParts = record { number = c.self.inside.number; bounds = c.self.inside.bounds; probe = record { seed = c.self.inside.seed; q = c.self.inside.bounds.q }; journal = c.self.inside.journal.items } in
     steps_few s c.self.inside.classes.items c.self.inside.newest c.self.invariant c.args.print c.args.steps.now c.find_class.new.steps c.deref.result.now c.deref.ensures.value c.in_ok-found.ensures.counted c.args.self.now c.self.view_is
