@@ -67,7 +67,7 @@ fn one_qubit_rules(alloc: Global) -> Option<Rules> {
 }
 
 // Whether the workers find one rotation for X, a rotation by a quarter of pi and X.
-fn finds<R: Threads + Wait + Sync, T: Turnstile>(
+pub(super) fn finds<R: Threads + Wait + Sync, T: Turnstile>(
     rt: &R,
     alloc: Global,
     numbers: [u64; 4],
