@@ -27,21 +27,23 @@ fn makes<R: Threads + Wait + Sync, T: Turnstile>(
     Some(text.as_slice() == two_gates().as_bytes())
 }
 
-// Whether they do where one of them is held until the others have ended.
+// Whether they do where one of them is held until the others have ended, once as many ends have passed.
 fn makes_with_one_held<R: Threads + Wait + Sync>(
     rt: &R,
     alloc: Global,
     workers: u64,
     worker: u64,
     kind: Kind,
+    to_pass: u64,
 ) -> bool
     requires some_worker { 1 ≤ workers }
     requires few_workers { workers ≤ 16 }
 {
-    let holding = Holding::new(worker, kind, workers, 0);
+    let holding = Holding::new(worker, kind, workers, to_pass);
     makes(rt, alloc, workers, &holding) == Some(true) && holding.has_held()
 }
 
+// In the first length, and in the second, which begins when both have ended once.
 #[test]
 fn two_workers_generate_the_same_where_one_is_held(rt: HostRuntime) {
     let kinds = [
@@ -53,10 +55,12 @@ fn two_workers_generate_the_same_where_one_is_held(rt: HostRuntime) {
     ];
     for (kind, name) in kinds {
         for worker in 0..2 {
-            assert!(rt;
-                makes_with_one_held(&rt, rt.alloc(), 2, worker, kind),
-                "worker {worker} at {name}"
-            );
+            for to_pass in [0, 2] {
+                assert!(rt;
+                    makes_with_one_held(&rt, rt.alloc(), 2, worker, kind, to_pass),
+                    "worker {worker} at {name} after {to_pass}"
+                );
+            }
         }
     }
 }
@@ -70,9 +74,11 @@ fn sixteen_workers_generate_the_same_where_one_is_held(rt: HostRuntime) {
         (15, Kind::Claiming, "claiming"),
     ];
     for (worker, kind, name) in rows {
-        assert!(rt;
-            makes_with_one_held(&rt, rt.alloc(), 16, worker, kind),
-            "worker {worker} at {name}"
-        );
+        for to_pass in [0, 16] {
+            assert!(rt;
+                makes_with_one_held(&rt, rt.alloc(), 16, worker, kind, to_pass),
+                "worker {worker} at {name} after {to_pass}"
+            );
+        }
     }
 }
