@@ -27,7 +27,7 @@ fn makes<R: Threads + Wait + Sync, T: Turnstile>(
     Some(text.as_slice() == two_gates().as_bytes())
 }
 
-// Whether they do where one of them is held until the others have ended, once as many ends have passed.
+// Whether they do where one of them is held until the others have ended, after this many ends of earlier rounds.
 fn makes_with_one_held<R: Threads + Wait + Sync>(
     rt: &R,
     alloc: Global,

@@ -40,7 +40,7 @@ pub struct Holding {
 }
 
 impl Holding {
-    /// Holds one of so many workers, after as many have ended as are to pass.
+    /// Holds one of so many workers, after this many ends of earlier rounds, which pass.
     pub fn new(worker: u64, kind: Kind, workers: u64, to_pass: u64) -> Holding {
         Holding {
             worker,
