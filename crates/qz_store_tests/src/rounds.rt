@@ -1,5 +1,5 @@
 //! A round of one store by two passes.
-ghost use Rattle.std.specs.Prelude.{◌≡◌, ◌<◌, ℕ, [], length, slice_index_or, IfSome, IfOk};
+ghost use Rattle.std.specs.Prelude.{◌≡◌, ◌≢◌, ◌<◌, ℕ, [], length, slice_index_or, IfSome, IfOk};
 ghost use Rattle.qz_circ.specs.Order.{all_circuits};
 ghost use Rattle.qz_shard.specs.Shards.{ShardParts};
 ghost use Rattle.qz_store.specs.Stores.{IsFree, IsPending};
@@ -34,6 +34,7 @@ fn opened(alloc: Global, b: Bounds, probe: Probe) -> Result<(Store, Pass), Memor
     ensures free { IfOk result (λ made. IsFree made.0 made.1) }
     ensures seats { IfOk result (λ made. made.0.seats.terms.seats ≡ 2) }
     ensures shares { IfOk result (λ made. made.1.view.shares ≡ 2) }
+    ensures none { IfOk result (λ made. made.1.view.receipts ≡ []) }
 {
     let Ok(list) = [1, 2, 3, 4, 5, 6, 7, 8, 9].to_vec(alloc) else {
         return Err(Memory);
@@ -147,6 +148,86 @@ fn round<L: Ledger>(alloc: Global, b: Bounds, blank: Blank) -> Option<Vec<Shard>
     Some(store.close(one))
 }
 
+// Two passes claim a rank each, and the second one becomes part of the first: the ranks, which that one has then to put.
+fn claimed_by_both(store: &Store, one: &mut Pass) -> Option<(u64, u64)>
+    requires free { IsFree store.now one.old }
+    requires shares { one.old.view.shares ≡ 2 }
+    requires none { one.old.view.receipts ≡ [] }
+    ensures free { IfSome result (λ _. IsFree store.now one.new) }
+    ensures shares { IfSome result (λ _. one.new.view.shares ≡ 2) }
+    ensures first { IfSome result (λ ranks. IsPending one.new.view ranks.0) }
+    ensures second { IfSome result (λ ranks. IsPending one.new.view ranks.1) }
+{
+    let mut two = store.split(one);
+    let first = store.claim(one)?;
+    let second = store.claim(&mut two)?;
+    store.join(one, two);
+    Some((first, second))
+}
+
+// Whether both are put, one after the other.
+fn has_both<L: Ledger>(
+    store: &Store,
+    pass: &mut Pass,
+    first: u64,
+    second: u64,
+    steps: &mut Steps<L>,
+) -> bool
+    requires free { IsFree store.now pass.old }
+    requires first { IsPending pass.old.view first }
+    requires second { IsPending pass.old.view second }
+    requires different { first ≢ second }
+    ensures free { IsFree store.now pass.new }
+    ensures shares { pass.new.view.shares ≡ pass.old.view.shares }
+{
+    let one = match store.try_put(pass, first, steps) {
+        Put::Done(receipt) => receipt,
+        Put::Busy | Put::Memory => return false,
+    };
+    item(store.try_put(pass, second, steps)) == Some(second) && one.item() == first
+}
+
+// The shards after a pass has put its own rank and one that the other pass had claimed, where each call answered as it should.
+fn put_for_the_other<L: Ledger>(alloc: Global, b: Bounds, blank: Blank) -> Option<Vec<Shard>>
+    requires name { blank.name ≡ L.name }
+    requires parts { blank.parts ≡ L.parts }
+    requires shared { 0 < L.parts }
+{
+    if b.circuits() < 10 {
+        return None;
+    }
+    let mut steps = Steps::<L>::new(blank);
+    let (store, mut one) = opened(alloc, b, Probe::new(0, b.q())).ok()?;
+    let (first, second) = claimed_by_both(&store, &mut one)?;
+    if first != 1 || second != 2 {
+        return None;
+    }
+    if !has_both(&store, &mut one, first, second, &mut steps) {
+        return None;
+    }
+    Some(store.close(one))
+}
+
+// How many entries of the shard are this rank.
+fn times(shard: &Shard, rank: u64) -> u64 {
+    let mut times: u64 = 0;
+    for i in 0..shard.len() {
+        if shard.entry(i) == rank {
+            times = times.saturating_add(1);
+        }
+    }
+    times
+}
+
+// How often the rank is among the entries of all shards.
+fn times_in_all(shards: &[Shard], rank: u64) -> u64 {
+    let mut all: u64 = 0;
+    for shard in shards {
+        all = all.saturating_add(times(shard, rank));
+    }
+    all
+}
+
 // How many entries the shards have in all.
 fn entries(shards: &[Shard]) -> u64 {
     let mut all: u64 = 0;
@@ -166,4 +247,17 @@ fn a_round_of_two_passes_puts_each_rank(rt: HostRuntime) {
     let shards = shards.expect(&rt, "each call answered as it should");
     assert!(rt; shards.len() == 16);
     assert!(rt; entries(&shards) == 9);
+}
+
+#[test]
+fn a_pass_puts_what_another_one_claimed(rt: HostRuntime) {
+    let shards = match Bounds::new(2, 1, 0) {
+        Ok(b) => put_for_the_other::<Brand>(rt.alloc(), b, Blank::new(1)),
+        Err(_) => None,
+    };
+    assert!(rt; shards.is_some());
+    let shards = shards.expect(&rt, "each call answered as it should");
+    assert!(rt; shards.len() == 16);
+    assert!(rt; entries(&shards) == 2);
+    assert!(rt; times_in_all(&shards, 1) == 1 && times_in_all(&shards, 2) == 1);
 }

@@ -104,7 +104,7 @@ fn program(alloc: Global) -> Result<MemSource, AllocError> {
 }
 
 // Whether these words behind the first ones end well and write these gates.
-fn writes<T: Turnstile, R: Threads + Wait + Sync>(
+pub(super) fn writes<T: Turnstile, R: Threads + Wait + Sync>(
     rt: &R,
     alloc: Global,
     more: &str,

@@ -1,5 +1,0 @@
-//! Tests of `optimise` with several workers.
-#![tactic(auto)]
-
-#[cfg(test)]
-mod meeting;
