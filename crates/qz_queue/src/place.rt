@@ -29,6 +29,10 @@ fn compare_gates(a: &[Inst], c: &[Inst], from: usize) -> (Ordering, usize)
     }
     let mut k = from;
     while k < a.len() {
+        if a[k] == c[k] {
+            k += 1;
+            continue;
+        }
         let order = a[k].cmp(&c[k]);
         if order.is_ne() {
             return (order, k);
