@@ -1,5 +1,5 @@
 -- What the last circuit of a full queue tells of those that are offered.
-use Rattle.std.proofs.Common.{◌≡◌, ◌<◌, ◌≤◌, ◌+◌, ◌-◌, ℕ, zero, suc, inl, inr, List, [], ◌∷◌, length, take, drop, get_or, Vec, Option, None, Some, IfSome, count_by, false, Greater, refl, sym, ap, subst, ◌∙◌, Less, Equal, arith}
+use Rattle.std.proofs.Common.{◌≡◌, ◌<◌, ◌≤◌, ◌+◌, ◌-◌, ℕ, zero, suc, inl, inr, List, [], ◌∷◌, length, take, drop, get_or, Vec, Option, None, Some, IfSome, false, Greater, refl, sym, ap, subst, ◌∙◌, Less, Equal, arith}
 use Rattle.std.specs.declared.cmp.Ordering.{Ordering}
 use Rattle.std.specs.Ordering.{is_lt, is_ge, ordering_then}
 use Rattle.std.specs.Cmp.Lexicographic.{slice_cmp}
@@ -15,7 +15,6 @@ use Rattle.qz_queue.proofs.DifferentOnes.{Has, Strict}
 use Rattle.qz_queue.proofs.QueueLists.{strict_circuits, queue_ordered, offer_late}
 use Rattle.qz_queue.proofs.Costs.{count_all, get_circuit}
 use Rattle.qz_queue.proofs.Fronts.{by_gates, slice_at}
-use Rattle.std.proofs.lemmas.Bool.Decides.{nat_tests}
 
 -- what comes after the last one comes after all
 all_before : (cs : List ProgramCircuit) (d k : ProgramCircuit) → Strict program_cmp cs → program_cmp (get_or cs (length cs - 1) []) d ≡ Less → Has cs k → program_cmp k d ≡ Less
