@@ -1,5 +1,5 @@
 -- Children that are told to change nothing by their cost and first position.
-use Rattle.std.proofs.Common.{◌≡◌, ◌≤◌, ℕ, List, [], ◌∷◌, take, Option, None, Some, IfSome, subst, sym, ap, ◌∙◌, arith}
+use Rattle.std.proofs.Common.{◌≡◌, ℕ, List, [], ◌∷◌, take, Option, IfSome, subst, ◌∙◌, arith}
 use Rattle.std.specs.List.{filter}
 use Rattle.qz_circ.specs.Circuit.{Circuit}
 use Rattle.qz_circ.specs.Gathering.{replaced_at}

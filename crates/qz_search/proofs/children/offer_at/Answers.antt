@@ -1,4 +1,3 @@
-use Rattle.std.proofs.Common.{◌∙◌}
 use Rattle.qz_search.proofs.Barred.{barred_lost}
 use Rattle.qz_search.proofs.children.offer_at.Goals as goal
 
