@@ -37,7 +37,7 @@ module _ {K : Type 0} where
       by true e (suc i) l ih =
           let bit = ap {B = ℕ} (λ c. cond c 1 0) e in ih i d (omega (arith, count_front p x xs, bit)) (omega arith)
 
-  count_all : (p : K → Bool) (xs : List K) → ((k : K) → Has xs k → p k ≡ true) → count_by p xs ≡ length xs
+  pub count_all : (p : K → Bool) (xs : List K) → ((k : K) → Has xs k → p k ≡ true) → count_by p xs ≡ length xs
   count_all p [] h = refl
   count_all p (x ∷ xs) h =
       let bit = ap {B = ℕ} (λ c. cond c 1 0) (h x (inl refl)) in
@@ -85,7 +85,7 @@ closed_refuses q n c h dear closed =
     let more = count_more (λ d. ltb (cost d) n) (λ d. is_lt (program_cmp d c)) q.list (λ k g. ap is_lt (cheaper_earlier k c (omega (arith, ltb-true (cost k) n g)))) in
     offer_late q.cap q.list c h (omega (arith, more))
 
-get_circuit : {A : Type 0} (vs : List (Vec Inst A)) (i : ℕ) (d : Vec Inst A) → i < length vs → get_or (lists_of vs) i [] ≡ (get_or vs i d).items
+pub get_circuit : {A : Type 0} (vs : List (Vec Inst A)) (i : ℕ) (d : Vec Inst A) → i < length vs → get_or (lists_of vs) i [] ≡ (get_or vs i d).items
 get_circuit [] i d l = absurd (omega arith)
 get_circuit (v ∷ vs) zero d l = refl
 get_circuit (v ∷ vs) (suc i) d l = get_circuit vs i d (omega arith)

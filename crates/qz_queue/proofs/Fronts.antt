@@ -30,7 +30,7 @@ gate_exact f g h =
     let whole = program_cmp_exact (f ∷ []) (g ∷ []) (by_gates (f ∷ []) (g ∷ []) refl ∙ (λ i. ordering_then (h i) Equal)) in cc
 
 -- the first different gate decides
-slice_at : (a c : ProgramCircuit) (k : ℕ) (d : Inst) → take k a ≡ take k c → k < length a → k < length c → slice_cmp program_gate_cmp a c ≡ ordering_then (program_gate_cmp (get_or a k d) (get_or c k d)) (slice_cmp program_gate_cmp (drop (suc k) a) (drop (suc k) c))
+pub slice_at : (a c : ProgramCircuit) (k : ℕ) (d : Inst) → take k a ≡ take k c → k < length a → k < length c → slice_cmp program_gate_cmp a c ≡ ordering_then (program_gate_cmp (get_or a k d) (get_or c k d)) (slice_cmp program_gate_cmp (drop (suc k) a) (drop (suc k) c))
 slice_at [] c k d h l m = absurd (omega arith)
 slice_at (x ∷ xs) [] k d h l m = absurd (omega arith)
 slice_at (x ∷ xs) (y ∷ ys) zero d h l m = refl
@@ -91,12 +91,12 @@ between n x y z h g long e =
     let second : length y ≡ length z = omega arith in
     between_gates n x y z (sym (by_gates x y first) ∙ h) (sym (by_gates y z second) ∙ g) first second e
 
-has_at : (cs : List ProgramCircuit) (n : ℕ) → n < length cs → Has cs (get_or cs n [])
+pub has_at : (cs : List ProgramCircuit) (n : ℕ) → n < length cs → Has cs (get_or cs n [])
 has_at [] n l = absurd (omega arith)
 has_at (c ∷ cs) zero l = inl refl
 has_at (c ∷ cs) (suc n) l = inr (has_at cs n (omega arith))
 
-strict_at : (cs : List ProgramCircuit) (i j : ℕ) → Strict program_cmp cs → i < j → j < length cs → program_cmp (get_or cs i []) (get_or cs j []) ≡ Less
+pub strict_at : (cs : List ProgramCircuit) (i j : ℕ) → Strict program_cmp cs → i < j → j < length cs → program_cmp (get_or cs i []) (get_or cs j []) ≡ Less
 strict_at [] i j s h l = absurd (omega arith)
 strict_at (c ∷ cs) i zero s h l = absurd (omega arith)
 strict_at (c ∷ cs) zero (suc j) s h l = s.0 (get_or cs j []) (has_at cs j (omega arith))

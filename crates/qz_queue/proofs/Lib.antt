@@ -3,3 +3,4 @@ pub mod Ranks
 pub mod QueueLists
 pub mod Costs
 pub mod Fronts
+pub mod LastOnes

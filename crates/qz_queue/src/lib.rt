@@ -2,10 +2,12 @@
 //! order of programs.
 #![tactic(auto)]
 
+mod bar;
 pub mod laws;
 mod place;
 mod queue;
 mod seen;
 
+pub use bar::Bar;
 pub use queue::Queue;
 pub use seen::Seen;

@@ -3,8 +3,10 @@ ghost use Rattle.std.specs.Prelude.{◌≡◌, ◌<◌, ◌≤◌, ◌-◌, ◌�
 ghost use Rattle.std.specs.List.{insert};
 ghost use Rattle.qz_circ.specs.ProgramCircuits.{ProgramCircuit, cost};
 ghost use Rattle.qz_circ.specs.Queue.{IsQueue, IsRefused, firsts};
+ghost use Rattle.qz_queue.specs.Bars.{IsBar};
 ghost use Rattle.qz_circ.specs.Vectors.{lists_of};
 
+use crate::bar::{Bar, bar_of};
 use crate::place::find;
 use qz_circ::{Inst, Memory};
 use std::alloc::Global;
@@ -196,6 +198,20 @@ impl Queue {
         match self.list.last() {
             Some(c) => (c.len() as u64) < n,
             None => false,
+        }
+    }
+
+    /// What a full queue's last circuit tells of circuits that begin as a program does, where it is before the program at their
+    /// first different gate.
+    pub fn bar(&self, c: &[Inst]) -> Option<Bar>
+        ensures { IfSome result (IsBar self.now c.now) }
+    {
+        if self.list.len() < self.cap {
+            return None;
+        }
+        match self.list.last() {
+            Some(last) => bar_of(last, c),
+            None => None,
         }
     }
 }

@@ -6,3 +6,4 @@ pub mod Sorting
 pub mod Children
 pub mod Renamed
 pub mod RenamedUsable
+pub mod Kept

@@ -15,3 +15,4 @@ pub mod ChildLaws
 pub mod ClassRows
 pub mod TableSearch
 pub mod RoundSteps
+pub mod Barred

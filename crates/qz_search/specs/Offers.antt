@@ -1,7 +1,9 @@
 -- What a search offers to its queue, and where it stands.
-use Rattle.std.specs.Prelude.{◌≡◌, ℕ, ◌≤◌, nat_le, Bool, not, ◌&&◌, List, ◌++◌, length, Contains}
+use Rattle.std.specs.Prelude.{◌≡◌, ℕ, ◌≤◌, nat_le, Bool, not, ◌&&◌, Option, Some, List, ◌∷◌, ◌++◌, length, Contains}
 use Rattle.std.specs.List.{AllByRecursion}
 use Rattle.qz_circ.specs.ProgramCircuits.{ProgramCircuit, IsProgramGate, cost, program_cmp}
+use Rattle.qz_circ.specs.Places.{PlaceParts}
+use Rattle.qz_queue.specs.declared.bar.Bar.{Bar}
 use Rattle.qz_circ.specs.Queue.{QueueList, different, firsts}
 use Rattle.qz_circ.specs.Search.{PlanNumbers, SearchState, is_among}
 use Rattle.qz_circ.specs.ProgramLimits.{most_qubits}
@@ -32,3 +34,13 @@ pub record IsAt (plan : PlanNumbers) (s : SearchState) (seen : List ProgramCircu
 -- what circuits with program gates on 64 qubits become has such gates too
 abbrev pub KeepsGates : (ProgramCircuit → List ProgramCircuit) → Type 0
 KeepsGates children = (y z : ProgramCircuit) → AllByRecursion (IsProgramGate most_qubits) y → Contains (children y) z → AllByRecursion (IsProgramGate most_qubits) z
+
+-- the bar tells that what costs so much after a step at this place would not change the queue
+pub record IsBarred (known : Option Bar) (n : ℕ) (place : PlaceParts) : Type 0 where
+  pub bar : Bar
+  pub first : ℕ
+  pub rest : List ℕ
+  pub is : known ≡ Some bar
+  pub positions : place.positions ≡ first ∷ rest
+  pub dear : bar.cost ≤ n
+  pub behind : bar.front ≤ first

@@ -1,5 +1,5 @@
 //! Offering a queue what a circuit becomes by one step with rules.
-ghost use Rattle.std.specs.Prelude.{◌≡◌, ◌≤◌, [], ◌∷◌, List, length, Contains, IsTrue, OnOk};
+ghost use Rattle.std.specs.Prelude.{◌≡◌, ◌≤◌, [], ◌∷◌, List, length, Contains, IsTrue, OnOk, IfSome};
 ghost use Rattle.std.specs.List.{AllByRecursion, filter};
 ghost use Rattle.qz_circ.specs.Circuit.{IsOn};
 ghost use Rattle.qz_circ.specs.Places.{places};
@@ -7,7 +7,8 @@ ghost use Rattle.qz_circ.specs.ProgramCircuits.{ProgramCircuit, IsProgramGate, c
 ghost use Rattle.qz_circ.specs.Queue.{IsQueue};
 ghost use Rattle.qz_circ.specs.Replacement.{replaced, children_by};
 ghost use Rattle.qz_match.specs.Neighbours.{AreNeighboursOf};
-ghost use Rattle.qz_search.specs.Offers.{is_new, offered_to};
+ghost use Rattle.qz_queue.specs.Bars.{IsBar};
+ghost use Rattle.qz_search.specs.Offers.{is_new, offered_to, IsBarred};
 ghost use Rattle.qz_search.specs.Tables.{children_of, children_by_table, IsSide};
 ghost use Rattle.qz_circ.specs.ProgramLimits.{most_qubits};
 
@@ -18,7 +19,7 @@ use crate::prepared::Prepared;
 use crate::table::Side;
 use qz_circ::{Inst, Memory, Op};
 use qz_match::{Neighbours, Place, places_of};
-use qz_queue::Queue;
+use qz_queue::{Bar, Queue};
 use qz_rewrite::replace;
 use qz_subst::instance_len;
 use std::alloc::Global;
@@ -29,6 +30,19 @@ fn is_lost(queue: &Queue, most: u64, n: u64) -> bool
     ensures { IsTrue result → (seen : List ProgramCircuit) (c : ProgramCircuit) → cost c ≡ n → queue.now ≡ offered_to queue.now (filter (is_new seen most) (c ∷ [])) }
 {
     n > most || queue.is_closed_to_cost(n)
+}
+
+// Whether the bar tells that the circuit of this cost after a step at a place would not change the queue.
+fn is_barred(bar: Option<Bar>, n: u64, place: &Place) -> bool
+    ensures { IsTrue result → IsBarred bar n place.now }
+{
+    let Some(bar) = bar else {
+        return false;
+    };
+    match place.positions() {
+        [first, ..] => bar.cost <= n && bar.front <= *first,
+        [] => false,
+    }
 }
 
 // A rule: instances of its left side give way to those of its right side.
@@ -63,21 +77,31 @@ fn offer_at(
     rule: &Rule,
     place: &Place,
     queue: &mut Queue,
+    bar: &mut Option<Bar>,
 ) -> Result<(), Memory>
     requires lawful { IsQueue queue.old }
+    requires bar { IfSome bar.old (IsBar queue.old c.now) }
     requires gates { AllByRecursion (IsProgramGate most_qubits) c.now }
     requires short { length c.now ≤ 20004 }
     requires left { IsOn 3 3 rule.now.left.now }
     requires right { IsOn 3 3 rule.now.right.now }
     requires few { length rule.now.right.now ≤ 6 }
     requires place { Contains (places rule.now.left.now rule.now.right.now c.now) place.now }
-    ensures { OnOk result (queue.new ≡ offered_to queue.old (filter (is_new test.now.seen test.now.most) (replaced c.now rule.now.right.now place.now ∷ []))) }
+    ensures offered { OnOk result (queue.new ≡ offered_to queue.old (filter (is_new test.now.seen test.now.most) (replaced c.now rule.now.right.now place.now ∷ []))) }
+    ensures bar { OnOk result (IfSome bar.new (IsBar queue.new c.now)) }
 {
-    if is_lost(queue, test.most, new_cost(c, rule, place)) {
+    let n = new_cost(c, rule, place);
+    if is_lost(queue, test.most, n) {
+        return Ok(());
+    }
+    if is_barred(*bar, n, place) {
         return Ok(());
     }
     let child = replace(alloc, c, rule.left, rule.right, place)?;
-    offer_child(test, child, queue);
+    if !offer_child(test, child, queue) {
+        return Ok(());
+    }
+    *bar = queue.bar(c);
     Ok(())
 }
 
@@ -89,18 +113,21 @@ fn offer_right(
     rule: &Rule,
     found: &[Place],
     queue: &mut Queue,
+    bar: &mut Option<Bar>,
 ) -> Result<(), Memory>
     requires lawful { IsQueue queue.old }
+    requires bar { IfSome bar.old (IsBar queue.old c.now) }
     requires gates { AllByRecursion (IsProgramGate most_qubits) c.now }
     requires short { length c.now ≤ 20004 }
     requires left { IsOn 3 3 rule.now.left.now }
     requires right { IsOn 3 3 rule.now.right.now }
     requires few { length rule.now.right.now ≤ 6 }
     requires found { found.now ≡ places rule.now.left.now rule.now.right.now c.now }
-    ensures { OnOk result (queue.new ≡ offered_to queue.old (filter (is_new test.now.seen test.now.most) (children_by rule.now.left.now rule.now.right.now c.now))) }
+    ensures offered { OnOk result (queue.new ≡ offered_to queue.old (filter (is_new test.now.seen test.now.most) (children_by rule.now.left.now rule.now.right.now c.now))) }
+    ensures bar { OnOk result (IfSome bar.new (IsBar queue.new c.now)) }
 {
     for place in found {
-        offer_at(alloc, test, c, rule, place, queue)?;
+        offer_at(alloc, test, c, rule, place, queue, bar)?;
     }
     Ok(())
 }
@@ -113,20 +140,24 @@ fn offer_side(
     circuits: &Circuits,
     side: &Side,
     queue: &mut Queue,
+    bar: &mut Option<Bar>,
 ) -> Result<(), Memory>
     requires lawful { IsQueue queue.old }
+    requires bar { IfSome bar.old (IsBar queue.old c.now.gates.now) }
     requires gates { AllByRecursion (IsProgramGate most_qubits) c.now.gates.now }
     requires short { length c.now.gates.now ≤ 20004 }
     requires links { AreNeighboursOf c.now.gates.now c.now.neighbours.now }
     requires side { IsSide circuits.now side.now }
-    ensures { OnOk result (queue.new ≡ offered_to queue.old (filter (is_new test.now.seen test.now.most) (children_of circuits.now side.now c.now.gates.now))) }
+    ensures offered { OnOk result (queue.new ≡ offered_to queue.old (filter (is_new test.now.seen test.now.most) (children_of circuits.now side.now c.now.gates.now))) }
+    ensures bar { OnOk result (IfSome bar.new (IsBar queue.new c.now.gates.now)) }
 {
     let left = side.left.as_slice();
     let found = places_of(alloc, left, &side.walk, c.gates, c.neighbours)?;
     let rights = side.rights.as_slice();
     for k in rights {
         let right = circuits.at(*k);
-        offer_right(alloc, test, c.gates, &Rule { left, right }, &found, queue)?;
+        let rule = Rule { left, right };
+        offer_right(alloc, test, c.gates, &rule, &found, queue, bar)?;
     }
     Ok(())
 }
@@ -153,8 +184,9 @@ pub(crate) fn offer_children(
         gates: c,
         neighbours,
     };
+    let mut bar = queue.bar(c);
     for side in sides {
-        offer_side(alloc, test, &program, circuits, side, queue)?;
+        offer_side(alloc, test, &program, circuits, side, queue, &mut bar)?;
     }
     Ok(())
 }

@@ -1,5 +1,5 @@
 //! What a round offers to the queue.
-ghost use Rattle.std.specs.Prelude.{◌≡◌, [], ◌∷◌, ◌++◌, List, OnOk, IfOk};
+ghost use Rattle.std.specs.Prelude.{◌≡◌, false, [], ◌∷◌, ◌++◌, List, OnOk, IfOk};
 ghost use Rattle.std.specs.List.{filter, flat_map};
 ghost use Rattle.qz_circ.specs.ProgramCircuits.{ProgramCircuit, program_cmp};
 ghost use Rattle.qz_circ.specs.Queue.{IsQueue, different};
@@ -16,17 +16,19 @@ use qz_match::Neighbours;
 use qz_queue::{Queue, Seen};
 use std::alloc::Global;
 
-// Offers a circuit to the queue where it is new. Most are refused, so this is tested first.
-pub(crate) fn offer_child(test: &Filter, c: Vec<Inst>, queue: &mut Queue)
+// Offers a circuit to the queue where it is new; false where nothing has changed. Most are refused, so this is tested first.
+pub(crate) fn offer_child(test: &Filter, c: Vec<Inst>, queue: &mut Queue) -> bool
     requires { IsQueue queue.old }
-    ensures { queue.new ≡ offered_to queue.old (filter (is_new test.now.seen test.now.most) (c.items ∷ [])) }
+    ensures kept { result ≡ false → queue.new ≡ queue.old }
+    ensures offered { queue.new ≡ offered_to queue.old (filter (is_new test.now.seen test.now.most) (c.items ∷ [])) }
 {
     if queue.refuses(&c) {
-        return;
+        return false;
     }
-    if test.passes(&c) {
-        queue.offer(c);
+    if !test.passes(&c) {
+        return false;
     }
+    queue.offer(c)
 }
 
 // Offers to the queue what each of these circuits becomes by one step with the rules, where it is new.

@@ -18,12 +18,12 @@ offer_side-requires-clause-side c =
 pub loop-side-preserved : goal.loop-side-preserved
 loop-side-preserved c =
     let next : Side → List ProgramCircuit = λ side. children_of c.circuits-circuits.result.now side c.args.c.now in
-    each_step (is_new c.args.test.now.seen c.args.test.now.most) next c.sides-sides.result.now c.loop-side.queue c.args.queue.now c.offer_side.new.queue c.loop-side.side-index c.side-item.result c.loop-side.invariant c.loop-side-test.true c.side-item.is c.in_ok-offer_side.ensures
+    (each_step (is_new c.args.test.now.seen c.args.test.now.most) next c.sides-sides.result.now c.loop-side.queue c.args.queue.now c.offer_side.new.queue c.loop-side.side-index c.side-item.result c.loop-side.invariant.0 c.loop-side-test.true c.side-item.is c.in_ok-offer_side.ensures.offered, c.in_ok-offer_side.ensures.bar)
 
 pub returns : goal.returns
 returns c =
     let next : List Circuit → Side → List ProgramCircuit = λ circuits side. children_of circuits side c.args.c.now in
     let test = is_new c.args.test.now.seen c.args.test.now.most in
     let over = c.loop-side-test.false in
-    each_end test (next c.circuits-circuits.result.now) c.sides-sides.result.now c.loop-side.queue c.args.queue.now c.loop-side.side-index c.loop-side.invariant (omega arith)
+    each_end test (next c.circuits-circuits.result.now) c.sides-sides.result.now c.loop-side.queue c.args.queue.now c.loop-side.side-index c.loop-side.invariant.0 (omega arith)
     ∙ (λ i. offered_to c.args.queue.now (filter test (flat_map (next (c.circuits-circuits.ensures i)) (c.sides-sides.ensures.same i))))

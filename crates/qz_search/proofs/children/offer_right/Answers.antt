@@ -14,14 +14,14 @@ offer_at-requires-clause-place c =
 pub loop-place-preserved : goal.loop-place-preserved
 loop-place-preserved c =
     let next : PlaceParts → List ProgramCircuit = λ p. replaced c.args.c.now c.args.rule.now.right.now p ∷ [] in
-    each_step (is_new c.args.test.now.seen c.args.test.now.most) next c.args.found.now c.loop-place.queue c.args.queue.now c.offer_at.new.queue c.loop-place.place-index c.place-item.result c.loop-place.invariant c.loop-place-test.true c.place-item.is c.in_ok-offer_at.ensures
+    (each_step (is_new c.args.test.now.seen c.args.test.now.most) next c.args.found.now c.loop-place.queue c.args.queue.now c.offer_at.new.queue c.loop-place.place-index c.place-item.result c.loop-place.invariant.0 c.loop-place-test.true c.place-item.is c.in_ok-offer_at.ensures.offered, c.in_ok-offer_at.ensures.bar)
 
-pub returns : goal.returns
+pub returns-clause-offered : goal.returns-clause-offered
 unfolding children_by
-returns c =
+returns-clause-offered c =
     let next : PlaceParts → List ProgramCircuit = λ p. replaced c.args.c.now c.args.rule.now.right.now p ∷ [] in
     let test = is_new c.args.test.now.seen c.args.test.now.most in
     let over = c.loop-place-test.false in
-    each_end test next c.args.found.now c.loop-place.queue c.args.queue.now c.loop-place.place-index c.loop-place.invariant (omega arith)
+    each_end test next c.args.found.now c.loop-place.queue c.args.queue.now c.loop-place.place-index c.loop-place.invariant.0 (omega arith)
     ∙ ap (λ ps. offered_to c.args.queue.now (filter test (flat_map next ps))) c.requires.found
     ∙ ap (λ cs. offered_to c.args.queue.now (filter test cs)) (sym (as_flat (replaced c.args.c.now c.args.rule.now.right.now) (places c.args.rule.now.left.now c.args.rule.now.right.now c.args.c.now)))

@@ -36,6 +36,8 @@ loop-k-preserved c =
     let k = get_or rights i 0 in
     let test = is_new c.args.test.now.seen c.args.test.now.most in
     let next : ℕ → List ProgramCircuit = λ k. children_by side.left.items (numbered c.args.circuits.now k) c.args.c.now.gates.now in
-    let P : List ProgramCircuit → Type 0 = λ cs. c.offer_right.new.queue ≡ offered_to c.loop-k.queue (filter test cs) in
-    each_step test next rights c.loop-k.queue c.args.queue.now c.offer_right.new.queue i k c.loop-k.invariant c.loop-k-test.true (sym (get_or_default_zero rights i k c.loop-k-test.true))
-    (subst P (λ j. children_by (c.as_slice-left.ensures.value j) (c.at-right.ensures j) c.args.c.now.gates.now) c.in_ok-offer_right.ensures)
+    let P : List ProgramCircuit → Type 0 = λ cs. c.offer_right.new.queue ≡ offered_to c.loop-k.queue (filter test cs) in (
+      each_step test next rights c.loop-k.queue c.args.queue.now c.offer_right.new.queue i k c.loop-k.invariant.0 c.loop-k-test.true (sym (get_or_default_zero rights i k c.loop-k-test.true))
+          (subst P (λ j. children_by (c.as_slice-left.ensures.value j) (c.at-right.ensures j) c.args.c.now.gates.now) c.in_ok-offer_right.ensures.offered),
+      c.in_ok-offer_right.ensures.bar,
+    )

@@ -3,11 +3,11 @@ use Rattle.qz_search.specs.Offers.{is_new}
 use Rattle.qz_search.proofs.Offering.{one_offered, closed_lost}
 use Rattle.qz_search.proofs.offer.offer_child.Goals as goal
 
-pub returns-then-passes : goal.returns-then-passes
-returns-then-passes c =
-    let new : is_new c.args.test.now.seen c.args.test.now.most c.args.c.items ≡ true = rw c.deref-2.ensures.value at (sym c.passes.ensures ∙ c.if-passes.true) in
+pub returns-clause-offered : goal.returns-clause-offered
+returns-clause-offered c =
+    let new : is_new c.args.test.now.seen c.args.test.now.most c.args.c.items ≡ true = rw c.deref-2.ensures.value at (sym c.passes.ensures ∙ c.if-not-passes.false) in
     one_offered c.args.queue.now c.offer.new.self c.args.c.items _ new c.offer.ensures.list
 
-pub returns-then-refuses : goal.returns-then-refuses
-returns-then-refuses c =
+pub returns-then-refuses-clause-offered : goal.returns-then-refuses-clause-offered
+returns-then-refuses-clause-offered c =
     closed_lost c.args.queue.now c.args.test.now.seen c.args.test.now.most c.args.c.items c.requires (rw c.deref.ensures.value at (c.refuses.ensures.same c.if-refuses.true))
