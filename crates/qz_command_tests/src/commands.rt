@@ -2,22 +2,13 @@
 
 use qz_circ::{Bounds, Which};
 use qz_io::{MemSink, SureShelf, SureSink, SureSource};
-use qz_samples::two_gates;
+use qz_samples::{two_gates, words_of};
 use qz_search::Plan;
 use qz_top::{Command, Status, WordFault, read_words, run_solo};
 use std::alloc::{AllocError, Global};
 use std::process::Abort;
 use std::str;
 use std::test::Fail;
-
-// The words of this text, which are parted by single spaces.
-pub(super) fn words_of(alloc: Global, text: &str) -> Result<Vec<String>, AllocError> {
-    let mut words = Vec::new(alloc);
-    for word in text.split(' ') {
-        words.push(String::from_str(alloc, word)?)?;
-    }
-    Ok(words)
-}
 
 // The next functions hide the clauses of what is tested: a test that knows less is proved sooner.
 fn answer(alloc: Global, words: &[String], out: &mut MemSink) -> Status {

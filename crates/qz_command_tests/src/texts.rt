@@ -1,9 +1,9 @@
 //! The texts of statuses and of reports, each written at once, and that nothing on the error stream changes a status.
 ghost use Rattle.std.specs.Prelude.{true, None};
 
-use crate::commands::words_of;
 use qz_circ::{AngleFault, LexFault, QasmFault, Which};
 use qz_io::{IoFault, MemShelf, MemSink, MemSource, Named, Sink};
+use qz_samples::words_of;
 use qz_top::Status::{Limit, Qasm};
 use qz_top::{Status, run_solo, tell};
 use std::alloc::{AllocError, Global};

@@ -1,8 +1,7 @@
 //! What several workers generate is what one does.
-use crate::commands::words_of;
 use qz_crew::{Open, Turnstile};
 use qz_io::{MemSink, SureShelf, SureSink, SureSource};
-use qz_samples::two_gates;
+use qz_samples::{two_gates, words_of};
 use qz_top::{Status, run};
 use std::alloc::{AllocError, Global};
 use std::process::Abort;

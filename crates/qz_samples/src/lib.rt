@@ -1,6 +1,8 @@
 //! Texts that tests of several crates use.
 #![tactic(auto)]
 
+use std::alloc::{AllocError, Global};
+
 /// The rules of the identities of at most two gates on one qubit.
 pub fn two_gates() -> &'static str {
     "quartz-rules 1\n\
@@ -143,4 +145,13 @@ cx q[0],q[1];\n\
 barrier q[0],q[1],a[0];\n\
 measure q[0] -> c[0];\n\
 measure q[1] -> c[1];\n"
+}
+
+/// The words of this text, which are parted by single spaces.
+pub fn words_of(alloc: Global, text: &str) -> Result<Vec<String>, AllocError> {
+    let mut words = Vec::new(alloc);
+    for word in text.split(' ') {
+        words.push(String::from_str(alloc, word)?)?;
+    }
+    Ok(words)
 }
