@@ -9,7 +9,7 @@ ghost use Rattle.qz_ring.specs.Counts.{SameCounts, CountsNothing, IsLeast, IsSum
 use crate::Memory;
 use crate::exponent::Exponent;
 use crate::merge::merge;
-use crate::shift::shift_terms;
+use crate::shift::{is_times, shift_terms};
 use crate::term::Term;
 use std::alloc::Global;
 use std::marker::Model;
@@ -190,6 +190,15 @@ impl Elem {
         ensures counts { IsTrue result ↔ SameCounts self.now other.now }
     {
         same_terms(&self.terms, &other.terms)
+    }
+
+    /// Whether this sum is the other one times a monomial, where the powers of each product lie from -2^40 to 2^40. Takes no
+    /// memory.
+    pub fn is_product(&self, other: &Elem, by: Exponent) -> bool
+        requires { reach_times other.now by ≤ 2 ^ 40 }
+        ensures { IsTrue result ↔ IsTimesMonomial by other.now self.now }
+    {
+        is_times(&self.terms, &other.terms, by)
     }
 
     /// The sum of the absolute coefficients.

@@ -1,6 +1,6 @@
 //! Single terms: a monomial with a whole coefficient.
 
-ghost use Rattle.std.specs.Prelude.{◌≡◌, ◌^◌, ◌≤◌, unsigned_abs};
+ghost use Rattle.std.specs.Prelude.{◌≡◌, ◌↔◌, ◌^◌, ◌≤◌, unsigned_abs, IsTrue};
 ghost use Rattle.qz_ring.specs.Exponent.{plus, reach_of};
 ghost use Rattle.qz_ring.specs.Terms.{signed_term};
 ghost use Rattle.qz_ring.specs.Shifting.{shifted_term};
@@ -53,4 +53,11 @@ pub(crate) fn shifted(term: Term, by: Exponent) -> Term
         coefficient: term.coefficient,
     };
     with_sign(unsigned, product.turn >= 256)
+}
+
+// Whether the two terms are the same.
+pub(crate) fn same_term(a: Term, b: Term) -> bool
+    ensures { IsTrue result ↔ (a ≡ b) }
+{
+    a == b
 }
