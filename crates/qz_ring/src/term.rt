@@ -25,6 +25,19 @@ impl Model for Term {
     ghost inverse = { λ t. record { exponent = t.exponent; coefficient = t.coefficient } };
 }
 
+// A blank, for places of a list that no term stands in.
+impl Default for Term {
+    fn default() -> Term {
+        Term {
+            exponent: Exponent {
+                turn: 0,
+                powers: [0; 3],
+            },
+            coefficient: 0,
+        }
+    }
+}
+
 // The term, with the other sign if it is negated.
 pub(crate) fn with_sign(term: Term, negated: bool) -> Term
     requires { unsigned_abs term.coefficient ≤ 2 ^ 120 }
