@@ -1,11 +1,11 @@
 -- Powers of √2: what they make of counts, and that they keep what is zero and what isn't.
 use Rattle.std.proofs.Common.{◌≡◌, ℕ, zero, suc, ◌+◌, ◌-◌, ◌*◌, ◌^◌, ◌<◌, ◌≤◌, refl, sym, ap, subst, ◌∙◌, arith, add-zero}
-use Rattle.std.specs.Prelude.{ℤ, pos, ◌-ℤ◌, neg_ℤ}
+use Rattle.std.specs.Prelude.{Bool, ℤ, pos, ◌-ℤ◌, neg_ℤ, ◌↔◌, IsTrue}
 use Rattle.std.proofs.Math.Nat.{pow-suc, pow-le-pow_right}
 use Rattle.std.proofs.lemmas.Int.{ints}
 use Rattle.qz_ring.specs.Exponent.{Exponent as Monomial, IsExponent as IsMonomial, minus, plus, turn_alone, with_turns}
 use Rattle.qz_ring.specs.Terms.{Terms, count}
-use Rattle.qz_ring.specs.Counts.{CountsNothing, IsTimesRoot2}
+use Rattle.qz_ring.specs.Counts.{CountsNothing, IsTimesMonomial, IsTimesRoot2}
 use Rattle.qz_ring.proofs.Order.{same_from_parts}
 use Rattle.qz_ring.proofs.Counts.{count-half_turn}
 use Rattle.qz_equiv.specs.Phases.{root, roots, IsTimesRoots, IsMultiple, AreAlike}
@@ -116,3 +116,8 @@ multiple_alike d by x y proper is = (
 -- where both sums are zero, each is any multiple of the other
 pub zero_multiple : (d : ℕ) (by : Monomial) (x y : Terms) → CountsNothing x → CountsNothing y → IsMultiple d by x y
 zero_multiple d by x y none_x none_y e he = none_x e he ∙ sym (roots_nothing d (count y) none_y (minus e by) (omega arith))
+
+-- with no roots, a multiple is a product with the monomial
+pub multiple_without_roots : (d : ℕ) (by : Monomial) (x y : Terms) (same : Bool) → d ≡ 0 → (IsTrue same ↔ IsTimesMonomial by y x) → (IsTrue same ↔ IsMultiple d by x y)
+unfolding roots
+multiple_without_roots d by x y same none told = rw none told

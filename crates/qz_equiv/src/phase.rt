@@ -9,7 +9,8 @@ use crate::zeros::{are_alike_matrices, are_zero, pivot, rows_of};
 use qz_matrix::Matrix;
 use qz_ring::{Elem, Exponent, Memory};
 
-// Whether x is y times the monomial, and times √2 as often as the number says. Most entries are zero, which takes no product.
+// Whether x is y times the monomial, and times √2 as often as the number says. Most entries are zero, and mostly there is no √2, so
+// that no product is made.
 fn same_entry(x: &Elem, y: &Elem, roots: u64, by: Exponent) -> Result<bool, Memory>
     requires few { roots ≤ 100 }
     requires weight { weight_of y.now ≤ 2 ^ (100 - roots) }
@@ -20,9 +21,11 @@ fn same_entry(x: &Elem, y: &Elem, roots: u64, by: Exponent) -> Result<bool, Memo
     if are_zero(x, y) {
         return Ok(true);
     }
-    let mut product = times_roots(y, roots)?;
-    product.shift(by);
-    Ok(x.same(&product))
+    if roots == 0 {
+        return Ok(x.is_product(y, by));
+    }
+    let product = times_roots(y, roots)?;
+    Ok(x.is_product(&product, by))
 }
 
 // Whether each entry in the column of x is that of y times the monomial, and times √2 as often as the number says.

@@ -5,3 +5,4 @@ pub mod Sums
 pub mod Counts
 pub mod MergeSteps
 pub mod Shifts
+pub mod TermTests

@@ -1,5 +1,5 @@
 -- The steps of a merge, each of which keeps `IsMerging`, and its end.
-use Rattle.std.proofs.Common.{◌≡◌, ◌≢◌, ℕ, ◌+◌, ◌≤◌, max, Bool, true, false, cond, ◌⊎◌, [], ◌∷◌, ◌++◌, map, length, ℤ, pos, ◌+ℤ◌, ◌^◌, to_z, of_z, refl, sym, ap, subst, ◌∙◌, suc, ◌<◌, ◌-◌, ◌-ℤ◌, if◌then◌else◌, take, drop, length-drop, add-one, append_assoc, length-append, get_or, inl, inr, arith}
+use Rattle.std.proofs.Common.{◌≡◌, ◌≢◌, ℕ, ◌+◌, ◌≤◌, max, Bool, true, false, cond, ◌⊎◌, [], ◌∷◌, ◌++◌, map, length, ℤ, pos, ◌+ℤ◌, ◌^◌, to_z, of_z, refl, sym, ap, subst, ◌∙◌, suc, ◌<◌, ◌-◌, ◌-ℤ◌, take, drop, length-drop, add-one, append_assoc, length-append, get_or, inl, inr, arith}
 use mathlib.Core.Bool.{false≢true}
 use Rattle.std.specs.Prelude.{unsigned_abs}
 use Rattle.std.specs.Bool.{Decides}
@@ -232,13 +232,13 @@ rest_taken : (ts : Terms) (i : ℕ) → take (length ts - i) (drop i ts) ≡ dro
 rest_taken ts i = take_all (length ts - i) (drop i ts) (omega (arith, length-drop i ts))
 
 -- once one side is used up, the rest of both sides is appended, and the list is the whole
-pub merge_finished : (n : Bool) (left right out longer new : Terms) (i j : ℕ) (ok : Bool) → IsMerging n left right out (drop i left) (drop j right) → (i ≡ length left) ⊎ (j ≡ length right) → longer ≡ (if ok then out ++ take (length left - i) (drop i left) else out) → ok ≡ true → new ≡ longer ++ map (signed_term n) (take (length right - j) (drop j right)) → IsMerged n left right new
-merge_finished n left right out longer new i j ok m used_up extended went_well appended =
+pub merge_finished : (n : Bool) (left right out longer new : Terms) (i j : ℕ) → IsMerging n left right out (drop i left) (drop j right) → (i ≡ length left) ⊎ (j ≡ length right) → longer ≡ out ++ take (length left - i) (drop i left) → new ≡ longer ++ map (signed_term n) (take (length right - j) (drop j right)) → IsMerged n left right new
+merge_finished n left right out longer new i j m used_up extended appended =
     let whole = merge_all n left right out (drop i left) (drop j right) m (elim used_up [
       | inl same ↦ inl (drop_all i left (omega arith))
       | inr same ↦ inr (drop_all j right (omega arith))
     ]) in
-    rw (appended, extended, went_well, rest_taken left i, rest_taken right j) whole
+    rw (appended, extended, rest_taken left i, rest_taken right j) whole
 
 -- the difference of two numbers with a sign
 signed-sub : (n : Bool) (a b : ℤ) → signed n a -ℤ signed n b ≡ signed n (a -ℤ b)

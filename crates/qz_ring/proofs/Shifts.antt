@@ -57,6 +57,24 @@ pub reach_times-rotated : (by : Exponent) (ts : Terms) (k : ℕ) → reach_times
 reach_times-rotated by ts k =
     omega (arith, reach_times-append by (drop k ts) (take k ts), sym (reach_times-append by (take k ts) (drop k ts)) ∙ ap (λ (us : Terms). reach_times us by) (take-append-drop k ts))
 
+-- neither part of a list weighs more than the whole
+pub parts_weigh : (ts : Terms) (k : ℕ) → (weight_of (take k ts) ≤ weight_of ts) × (weight_of (drop k ts) ≤ weight_of ts)
+parts_weigh ts k =
+    let whole = sym (weight_of-append (take k ts) (drop k ts)) ∙ ap weight_of (take-append-drop k ts) in
+    (omega (arith, whole), omega (arith, whole))
+
+-- nor reaches further
+pub parts_reach : (ts : Terms) (k : ℕ) → (largest_reach (take k ts) ≤ largest_reach ts) × (largest_reach (drop k ts) ≤ largest_reach ts)
+parts_reach ts k =
+    let whole = sym (largest_reach-append (take k ts) (drop k ts)) ∙ ap largest_reach (take-append-drop k ts) in
+    (omega (arith, whole), omega (arith, whole))
+
+-- nor do its products
+pub part_products : (by : Exponent) (ts : Terms) (k : ℕ) → (reach_times (take k ts) by ≤ reach_times ts by) × (reach_times (drop k ts) by ≤ reach_times ts by)
+part_products by ts k =
+    let whole = sym (reach_times-append by (take k ts) (drop k ts)) ∙ ap (λ (us : Terms). reach_times us by) (take-append-drop k ts) in
+    (omega (arith, whole), omega (arith, whole))
+
 -- and has the same coefficients
 coefficient_at-rotated : (ts : Terms) (k : ℕ) (e : Exponent) → coefficient_at (drop k ts ++ take k ts) e ≡ coefficient_at ts e
 coefficient_at-rotated ts k e =

@@ -9,18 +9,20 @@ ghost use Rattle.qz_ring.specs.Counts.{SameCounts, CountsNothing, IsLeast, IsSum
 use crate::Memory;
 use crate::exponent::Exponent;
 use crate::merge::merge;
-use crate::shift::shift_terms;
+use crate::shift::{is_times, shift_terms};
 use crate::term::Term;
+use smallvec::SmallVec;
 use std::alloc::Global;
 use std::marker::Model;
 
 /// A sum of monomials with whole coefficients, in its one form: the list of its terms, with turns
 /// below 256, no coefficient 0, and exponents that rise by turn and then by the powers.
 ///
-/// The absolute coefficients sum to at most 2^120, and the powers lie from -2^40 to 2^40.
+/// The absolute coefficients sum to at most 2^120, and the powers lie from -2^40 to 2^40. A sum of one term takes no memory of its
+/// own.
 #[derive(Debug, Drop)]
 pub struct Elem {
-    terms: Vec<Term>,
+    terms: SmallVec<Term, 1>,
 }
 
 impl Model for Elem {
@@ -40,7 +42,7 @@ impl Elem {
         ensures { result ≡ [] }
     {
         Elem {
-            terms: Vec::new(alloc),
+            terms: SmallVec::new(alloc),
         }
     }
 
@@ -48,9 +50,7 @@ impl Elem {
     pub fn one(alloc: Global) -> Result<Elem, Memory>
         ensures { IfOk result (λ one. one ≡ record { exponent = zero_exponent; coefficient = pos 1 } ∷ []) }
     {
-        let Ok(mut terms) = Vec::with_capacity(alloc, 1) else {
-            return Err(Memory);
-        };
+        let mut terms = SmallVec::new(alloc);
         terms.push_reserved(Term {
             exponent: Exponent {
                 turn: 0,
@@ -65,7 +65,7 @@ impl Elem {
     pub fn copy(&self) -> Result<Elem, Memory>
         ensures { IfOk result (λ copy. copy ≡ self.now) }
     {
-        match Vec::from_slice(*self.terms.allocator(), &self.terms) {
+        match SmallVec::from_slice(*self.terms.allocator(), self.terms.as_slice()) {
             Ok(terms) => Ok(Elem { terms }),
             Err(_) => Err(Memory),
         }
@@ -101,7 +101,12 @@ impl Elem {
         if self.is_zero() && other.is_zero() {
             return Ok(Elem::zero(alloc));
         }
-        let terms = merge(alloc, &self.terms, &other.terms, negated)?;
+        let terms = merge(
+            alloc,
+            self.terms.as_slice(),
+            other.terms.as_slice(),
+            negated,
+        )?;
         Ok(Elem { terms })
     }
 
@@ -189,7 +194,16 @@ impl Elem {
         ensures equal { IsTrue result ↔ (self.now ≡ other.now) }
         ensures counts { IsTrue result ↔ SameCounts self.now other.now }
     {
-        same_terms(&self.terms, &other.terms)
+        same_terms(self.terms.as_slice(), other.terms.as_slice())
+    }
+
+    /// Whether this sum is the other one times a monomial, where the powers of each product lie from -2^40 to 2^40. Takes no
+    /// memory.
+    pub fn is_product(&self, other: &Elem, by: Exponent) -> bool
+        requires { reach_times other.now by ≤ 2 ^ 40 }
+        ensures { IsTrue result ↔ IsTimesMonomial by other.now self.now }
+    {
+        is_times(self.terms.as_slice(), other.terms.as_slice(), by)
     }
 
     /// The sum of the absolute coefficients.
@@ -198,7 +212,7 @@ impl Elem {
         ensures bounded { weight_of self.now ≤ 2 ^ 120 }
         ensures reach { largest_reach self.now ≤ 2 ^ 40 }
     {
-        weigh(&self.terms)
+        weigh(self.terms.as_slice())
     }
 
     /// The least exponent below half a circle that counts something, by turn and then by the powers,
@@ -240,7 +254,7 @@ impl Elem {
         ensures reach { reach_of result.0 ≤ 2 ^ 40 }
         ensures nonzero { result.1 ≢ pos 0 }
     {
-        let term = self.terms[k as usize];
+        let term = self.terms.as_slice()[k as usize];
         (term.exponent, term.coefficient)
     }
 }

@@ -1,18 +1,20 @@
 //! The sum or the difference of two sorted lists of terms, in one pass over both.
 
-ghost use Rattle.std.specs.Prelude.{◌≡◌, ◌+◌, ◌^◌, ◌<◌, ◌≤◌, ◌⊎◌, [], ◌++◌, map, length, drop, vec_len, vec_capacity, IfOk, unsigned_abs};
+ghost use Rattle.std.specs.Prelude.{◌≡◌, ◌+◌, ◌^◌, ◌<◌, ◌≤◌, ◌⊎◌, [], ◌++◌, map, length, drop, IfOk, unsigned_abs};
+ghost use Rattle.smallvec.specs.SmallVec.{HasRoomFor};
 ghost use Rattle.qz_ring.specs.Terms.{signed_term, weight_of, IsCanonical};
 ghost use Rattle.qz_ring.specs.Merging.{IsMerging, IsMerged, sum_of_two};
 
 use crate::Memory;
 use crate::exponent::compare;
 use crate::term::{Term, with_sign};
+use smallvec::SmallVec;
 use std::alloc::Global;
 use std::cmp::Ordering;
 
 // What a merge has made when one of the lists is used up: the terms so far, and how far it came in each list.
 struct Heads {
-    merged: Vec<Term>,
+    merged: SmallVec<Term, 1>,
     left: usize,
     right: usize,
 }
@@ -23,7 +25,7 @@ pub(crate) fn merge(
     left: &[Term],
     right: &[Term],
     negated: bool,
-) -> Result<Vec<Term>, Memory>
+) -> Result<SmallVec<Term, 1>, Memory>
     requires left_canonical { IsCanonical left.now }
     requires right_canonical { IsCanonical right.now }
     requires weight { weight_of left.now + weight_of right.now ≤ 2 ^ 120 }
@@ -43,14 +45,14 @@ pub(crate) fn merge(
 }
 
 // No terms, with room for all those of both lists.
-fn with_room(alloc: Global, left: &[Term], right: &[Term]) -> Result<Vec<Term>, Memory>
+fn with_room(alloc: Global, left: &[Term], right: &[Term]) -> Result<SmallVec<Term, 1>, Memory>
     ensures empty { IfOk result (λ v. v.items ≡ []) }
-    ensures room { IfOk result (λ v. length left.now + length right.now ≤ vec_capacity v) }
+    ensures room { IfOk result (λ v. length left.now + length right.now ≤ v.capacity) }
 {
     let Some(room) = left.len().checked_add(right.len()) else {
         return Err(Memory);
     };
-    match Vec::with_capacity(alloc, room) {
+    match SmallVec::with_capacity(alloc, room) {
         Ok(empty) => Ok(empty),
         Err(_) => Err(Memory),
     }
@@ -65,7 +67,7 @@ fn merge_heads(alloc: Global, left: &[Term], right: &[Term], negated: bool) -> R
     ensures left_within { IfOk result (λ h. h.left ≤ length left.now) }
     ensures right_within { IfOk result (λ h. h.right ≤ length right.now) }
     ensures used_up { IfOk result (λ h. (h.left ≡ length left.now) ⊎ (h.right ≡ length right.now)) }
-    ensures room { IfOk result (λ h. length left.now + length right.now ≤ vec_capacity h.merged) }
+    ensures room { IfOk result (λ h. length left.now + length right.now ≤ h.merged.capacity) }
 {
     let mut merged = with_room(alloc, left, right)?;
     let mut i = 0;
@@ -97,9 +99,9 @@ fn merge_heads(alloc: Global, left: &[Term], right: &[Term], negated: bool) -> R
 }
 
 // Appends the terms, each with the other sign if they are negated.
-fn append_signed(rest: &[Term], negated: bool, out: &mut Vec<Term>)
+fn append_signed(rest: &[Term], negated: bool, out: &mut SmallVec<Term, 1>)
     requires weight { weight_of rest.now ≤ 2 ^ 120 }
-    requires room { vec_len out.old + length rest.now ≤ vec_capacity out.old }
+    requires room { HasRoomFor out.old (length rest.now) }
     ensures { out.new.items ≡ out.old.items ++ map (signed_term negated) rest.now }
 {
     for term in rest {
@@ -108,12 +110,12 @@ fn append_signed(rest: &[Term], negated: bool, out: &mut Vec<Term>)
 }
 
 // Appends the sum of two terms with one exponent, if it is not 0.
-fn push_both(a: Term, b: Term, out: &mut Vec<Term>)
+fn push_both(a: Term, b: Term, out: &mut SmallVec<Term, 1>)
     requires left_weight { unsigned_abs a.coefficient ≤ 2 ^ 120 }
     requires right_weight { unsigned_abs b.coefficient ≤ 2 ^ 120 }
-    requires room { vec_len out.old < vec_capacity out.old }
+    requires room { HasRoomFor out.old 1 }
     ensures items { out.new.items ≡ out.old.items ++ sum_of_two a b }
-    ensures capacity { vec_capacity out.new ≡ vec_capacity out.old }
+    ensures capacity { out.new.capacity ≡ out.old.capacity }
 {
     let coefficient = a.coefficient + b.coefficient;
     if coefficient != 0 {

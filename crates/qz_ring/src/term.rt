@@ -1,6 +1,6 @@
 //! Single terms: a monomial with a whole coefficient.
 
-ghost use Rattle.std.specs.Prelude.{◌≡◌, ◌^◌, ◌≤◌, unsigned_abs};
+ghost use Rattle.std.specs.Prelude.{◌≡◌, ◌↔◌, ◌^◌, ◌≤◌, unsigned_abs, IsTrue};
 ghost use Rattle.qz_ring.specs.Exponent.{plus, reach_of};
 ghost use Rattle.qz_ring.specs.Terms.{signed_term};
 ghost use Rattle.qz_ring.specs.Shifting.{shifted_term};
@@ -23,6 +23,19 @@ impl Model for Term {
     ghost view = { λ a. record { exponent = a.exponent; coefficient = a.coefficient } };
 
     ghost inverse = { λ t. record { exponent = t.exponent; coefficient = t.coefficient } };
+}
+
+// A blank, for places of a list that no term stands in.
+impl Default for Term {
+    fn default() -> Term {
+        Term {
+            exponent: Exponent {
+                turn: 0,
+                powers: [0; 3],
+            },
+            coefficient: 0,
+        }
+    }
 }
 
 // The term, with the other sign if it is negated.
@@ -53,4 +66,11 @@ pub(crate) fn shifted(term: Term, by: Exponent) -> Term
         coefficient: term.coefficient,
     };
     with_sign(unsigned, product.turn >= 256)
+}
+
+// Whether the two terms are the same.
+pub(crate) fn same_term(a: Term, b: Term) -> bool
+    ensures { IsTrue result ↔ (a ≡ b) }
+{
+    a == b
 }

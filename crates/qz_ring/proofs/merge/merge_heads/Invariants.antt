@@ -1,4 +1,4 @@
-use Rattle.std.proofs.Common.{◌+◌, ◌-◌, ◌≤◌, length, drop, vec_capacity}
+use Rattle.std.proofs.Common.{◌+◌, ◌-◌, ◌≤◌, length, drop}
 use Rattle.qz_ring.specs.Merging.{IsMerging}
 use Rattle.qz_ring.proofs.merge.merge_heads.Given as goal
 
@@ -7,7 +7,7 @@ invariant-loop-i l = record {
   merging : IsMerging l.negated l.left l.right l.merged.items (drop l.i l.left) (drop l.j l.right);
   left_within : l.i ≤ length l.left;
   right_within : l.j ≤ length l.right;
-  room : length l.left + length l.right ≤ vec_capacity l.merged;
+  room : length l.left + length l.right ≤ l.merged.capacity;
 }
 
 abbrev pub decreases-loop-i : goal.decreases-loop-i
