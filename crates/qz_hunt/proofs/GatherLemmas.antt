@@ -50,7 +50,7 @@ offered_to_both q cs ds =
     there_last k h = elim (has_append q.list ds k h) [ inl old ↦ has_left q.list (cs ++ ds) k old | inr new ↦ has_right q.list (cs ++ ds) k (has_right cs ds k new) ]
 
 -- the new children of some and of others
-children_of_both : (s : SearchParts) (cs ds : List ProgramCircuit) → new_children s (cs ++ ds) ≡ new_children s cs ++ new_children s ds
+pub children_of_both : (s : SearchParts) (cs ds : List ProgramCircuit) → new_children s (cs ++ ds) ≡ new_children s cs ++ new_children s ds
 children_of_both s cs ds =
     ap (filter (is_new s.seen s.most)) (flat_map-append (children_by_table s.rules) cs ds)
     ∙ filter-append (is_new s.seen s.most) (flat_map (children_by_table s.rules) cs) (flat_map (children_by_table s.rules) ds)

@@ -1,2 +1,3 @@
 -- Lemmas of what is gathered.
+mod AheadLemmas
 mod GatherLemmas

@@ -20,8 +20,11 @@ use std::alloc::Global;
 use std::sync::Wait;
 use std::thread::Threads;
 
+// One circuit of so many is offered before the workers begin.
+const AHEAD: usize = 16;
+
 // The rest of a round that has taken these circuits: workers gather what they become, of which there are no more than circuits.
-fn next_round<R: Threads + Wait + Sync, T: Turnstile>(
+fn shared_round<R: Threads + Wait + Sync, T: Turnstile>(
     rt: &R,
     alloc: Global,
     search: Rounds,
@@ -48,6 +51,31 @@ fn next_round<R: Threads + Wait + Sync, T: Turnstile>(
     let mut search = round.search;
     search.end_round(alloc, found?)?;
     Ok(search)
+}
+
+// The same, where the first of many circuits are offered before the workers begin: then each worker's queue, which begins as a copy of
+// the search's, is full and refuses most of what it is offered.
+fn next_round<R: Threads + Wait + Sync, T: Turnstile>(
+    rt: &R,
+    alloc: Global,
+    search: Rounds,
+    batch: Vec<Vec<Inst>>,
+    workers: u64,
+    stile: &T,
+) -> Result<Rounds, Memory>
+    requires some_worker { 1 ≤ workers }
+    requires few_workers { workers ≤ 16 }
+    requires fit { AreFit (lists_of batch.items) }
+    requires few { length batch.items ≤ most_taken }
+    ensures { IfOk result (λ next. next ≡ advanced search (new_children search (lists_of batch.items))) }
+{
+    let mut search = search;
+    let mut batch = batch;
+    let Ok(rest) = batch.split_off(batch.len() / AHEAD) else {
+        return Err(Memory);
+    };
+    search.offer_first(alloc, &batch)?;
+    shared_round(rt, alloc, search, rest, workers, stile)
 }
 
 /// The circuit that the search by this plan finds from a circuit by the rules, by 1 to 16 workers that share the circuits of each round. It is

@@ -1,7 +1,5 @@
 -- Circuits of rules that have numbers.
-use Rattle.std.specs.Prelude.{◌≡◌, ℕ, ◌<◌, List, ◌++◌, length, map}
-use Rattle.std.specs.Global.{Vec}
-use Rattle.qz_circ.specs.declared.circuit.Op.{Op}
+use Rattle.std.specs.Prelude.{◌≡◌, ℕ, ◌<◌, List, ◌++◌, length}
 use Rattle.qz_circ.specs.Circuit.{Circuit}
 use Rattle.qz_circ.specs.Replacement.{numbered}
 

@@ -113,6 +113,17 @@ impl Rounds {
         children::offer_children(alloc, &self.rules, neighbours, &self.test, c, queue)
     }
 
+    /// Offers to its queue what some of the circuits become that the round took, before all others are offered.
+    pub fn offer_first(&mut self, alloc: Global, batch: &[Vec<Inst>]) -> Result<(), Memory>
+        requires fit { AreFit (lists_of batch.now) }
+        ensures offered { OnOk result (self.new ≡ record self.old { queue = offered_to self.old.queue (new_children self.old (lists_of batch.now)) }) }
+        ensures lawful { IsQueue self.old.queue }
+    {
+        let _ = self.queue.len();
+        offer_batch(alloc, &self.rules, &self.test, batch, &mut self.queue)?;
+        Ok(())
+    }
+
     // Ends a round with the children of the circuits that it took.
     fn offer_batch(&mut self, alloc: Global, batch: &[Vec<Inst>]) -> Result<(), Memory>
         requires lawful { IsQueue self.old.queue }

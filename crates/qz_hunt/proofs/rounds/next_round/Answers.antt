@@ -1,23 +1,18 @@
-use Rattle.std.proofs.Common.{◌≡◌, ◌<◌, ℕ, length, ap, subst, ◌∙◌, arith}
-use Rattle.std.specs.Prelude.{IfOk}
-use Rattle.std.proofs.lemmas.List.{length-map}
-use Rattle.qz_circ.specs.Vectors.{lists_of}
-use Rattle.qz_circ.specs.Search.{earliest}
-use Rattle.qz_seats.specs.Views.{draws}
-use Rattle.qz_hunt.specs.Gathered.{RoundParts, IsGathered}
-use Rattle.qz_hunt.proofs.GatherLemmas.{gathered_all}
+use Rattle.std.proofs.Common.{◌∙◌}
+use Rattle.qz_hunt.proofs.AheadLemmas.{parted, fit_first, fit_rest, round_ahead}
 use Rattle.qz_hunt.proofs.rounds.next_round.Goals as goal
+
+pub offer_first-requires : goal.offer_first-requires
+offer_first-requires g c =
+    let parts = parted _ c.args.batch.items c.deref.result.now c.in-Ok.rest.items (c.deref.ensures.value ∙ c.in-Ok.ensures.items) c.in-Ok.ensures.tail in
+    record { fit = fit_first _ _ _ parts c.requires.fit }
+
+pub shared_round-requires-clause-fit : goal.shared_round-requires-clause-fit
+shared_round-requires-clause-fit g c κs within =
+    let parts = parted _ c.args.batch.items c.deref.result.now c.in-Ok.rest.items (c.deref.ensures.value ∙ c.in-Ok.ensures.items) c.in-Ok.ensures.tail in
+    fit_rest _ _ _ parts c.requires.fit
 
 pub returns : goal.returns
 returns g c =
-    let search = c.args.search in
-    let batch = lists_of c.args.batch.items in
-    let r : RoundParts = record { search = search; batch = batch; seats = c.in_ok-seats.seats } in
-    let view = c.crew-pass.result.0.view in
-    let found = c.in_ok-found.field-0 in
-    let all : IsGathered r view found = subst (λ x. IfOk x (IsGathered r view)) c.in_ok-found.was c.crew-pass.ensures.gathered in
-    let limit : view.terms.limit ≡ length batch =
-    omega (arith, ap (λ t. t.limit) c.crew-pass.ensures.free.0.1, ap (λ t. t.limit) c.in_ok-seats.ensures.terms, c.len-limit.ensures, c.args.batch.ok.0, length-map c.args.batch.items (λ v. v.items)) in
-    let drawn : (n : ℕ) → n < length batch → draws n view ≡ 1 = λ n inside. c.close.ensures.ended all.ended n (omega (arith, inside, limit)) in
-    let gathered = gathered_all r found view all.all drawn in
-    c.in_ok-end_round.ensures ∙ (λ i. record search { queue = gathered i; best = earliest search.best (gathered i).list })
+    let parts = parted _ c.args.batch.items c.deref.result.now c.in-Ok.rest.items (c.deref.ensures.value ∙ c.in-Ok.ensures.items) c.in-Ok.ensures.tail in
+    round_ahead c.args.search _ _ _ _ c.shared_round.result parts c.in_ok-offer_first.ensures.offered c.shared_round.ensures
