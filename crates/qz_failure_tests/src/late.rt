@@ -1,5 +1,5 @@
 //! How commands end where the input and the rule file tell their end, and would fail or give more after it.
-ghost use Rattle.std.specs.Prelude.{◌≡◌, ◌≢◌, ◌≤◌, true, None, length, IfOk};
+ghost use Rattle.std.specs.Prelude.{◌≡◌, ◌≢◌, ◌≤◌, true, false, None, Ok, length, IfOk};
 ghost use Rattle.qz_io.specs.Counts.{Rose};
 
 use crate::cases::{Case, answer, optimising, sink_with, turned, words_alone};
@@ -26,6 +26,7 @@ struct Late {
     more: SureSource,
     after: After,
     ended: bool,
+    late: u64,
     faults: u64,
 }
 
@@ -36,6 +37,7 @@ impl Late {
             more: SureSource::new(Vec::from_slice(alloc, b" h q[0];")?),
             after,
             ended: false,
+            late: 0,
             faults: 0,
         })
     }
@@ -46,7 +48,9 @@ impl Late {
         ensures failed { result ≡ Err IoFault.Failed → Rose self.old.faults self.new.faults }
         ensures faults { self.old.faults ≤ self.new.faults }
         ensures answered { result ≢ Err IoFault.Failed → self.new.faults ≡ self.old.faults }
+        ensures ended { self.new.ended ≡ self.old.ended }
     {
+        self.late = self.late.saturating_add(1);
         match self.after {
             After::End => Ok(0),
             After::Fault => {
@@ -63,6 +67,8 @@ impl Late {
         ensures failed { result ≡ Err IoFault.Failed → Rose self.old.faults self.new.faults }
         ensures faults { self.old.faults ≤ self.new.faults }
         ensures answered { result ≢ Err IoFault.Failed → self.new.faults ≡ self.old.faults }
+        ensures goes_on { result ≢ Ok 0 → self.new.ended ≡ self.old.ended }
+        ensures in_time { self.old.ended ≡ false → self.new.late ≡ self.old.late }
     {
         if self.ended {
             return self.give_late(piece);
@@ -80,6 +86,10 @@ impl Source for Late {
 
     ghost answers_faults = { true };
 
+    ghost has_ended = { λ s. s.ended };
+
+    ghost late_reads = { λ s. s.late };
+
     fn read(&mut self, piece: &mut [u8]) -> Result<usize, IoFault> {
         self.give(piece)
     }
@@ -96,7 +106,12 @@ impl Shelf for Late {
 
     ghost answers_faults = { true };
 
+    ghost has_ended = { λ s. s.ended };
+
+    ghost late_reads = { λ s. s.late };
+
     fn open(&mut self, _name: &str) -> Result<bool, IoFault> {
+        self.ended = false;
         Ok(true)
     }
 
@@ -124,7 +139,7 @@ fn ends_late(
     let mut out = sink_with(alloc, &[])?;
     let mut err = sink_with(alloc, &[])?;
     let end = answer(alloc, &words, &mut input, &mut shelf, &mut out, &mut err);
-    Ok(end == status && written(&out) == text && input.faults == 0 && shelf.faults == 0)
+    Ok(end == status && written(&out) == text && input.late == 0 && shelf.late == 0)
 }
 
 // Cases of each command, how they end, and what they write.

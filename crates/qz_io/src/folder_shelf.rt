@@ -83,6 +83,10 @@ impl<D: Files + Drop> Shelf for DirShelf<D> {
 
     ghost answers_faults = { true };
 
+    ghost has_ended = { λ _. false };
+
+    ghost late_reads = { λ _. 0 };
+
     fn open(&mut self, name: &str) -> Result<bool, IoFault>
         ensures faults { self.old.faults ≤ self.new.faults }
 

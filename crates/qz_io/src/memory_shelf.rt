@@ -63,6 +63,10 @@ impl Shelf for MemShelf {
 
     ghost answers_faults = { true };
 
+    ghost has_ended = { λ _. false };
+
+    ghost late_reads = { λ _. 0 };
+
     fn open(&mut self, name: &str) -> Result<bool, IoFault>
         ensures told_to_fail { (result ≡ Err IoFault.Failed) ↔ IsTrue self.old.fail_open }
         ensures never_memory { result ≢ Err IoFault.Memory }

@@ -1,5 +1,5 @@
 //! A source in memory that fails at given places.
-ghost use Rattle.std.specs.Prelude.{◌≡◌, ◌≢◌, ◌≤◌, ◌↔◌, ◌+◌, ◌++◌, length, min, take, drop, true, Some, IfOk, OnErr};
+ghost use Rattle.std.specs.Prelude.{◌≡◌, ◌≢◌, ◌≤◌, ◌↔◌, ◌+◌, ◌++◌, length, min, take, drop, true, false, Some, IfOk, OnErr};
 ghost use Rattle.qz_io.specs.Counts.{counted};
 ghost use Rattle.qz_io.specs.Stops.{IsAtStop, before_stop};
 
@@ -58,6 +58,10 @@ impl Source for MemSource {
     ghost faults = { λ s. s.faults };
 
     ghost answers_faults = { true };
+
+    ghost has_ended = { λ _. false };
+
+    ghost late_reads = { λ _. 0 };
 
     fn read(&mut self, piece: &mut [u8]) -> Result<usize, IoFault>
         ensures stopped { (result ≡ Err IoFault.Failed) ↔ IsAtStop self.old.stops self.old.done }

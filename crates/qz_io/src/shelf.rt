@@ -1,5 +1,5 @@
 //! Where files lie.
-ghost use Rattle.std.specs.Prelude.{◌≡◌, ◌≢◌, ℕ, ◌<◌, ◌≤◌, Bool, true, IsTrue, List, Option, length, take, IfOk, OnErr};
+ghost use Rattle.std.specs.Prelude.{◌≡◌, ◌≢◌, ℕ, ◌<◌, ◌≤◌, Bool, true, false, IsTrue, List, Option, length, take, IfOk, OnErr};
 ghost use Rattle.std.specs.Io.KnownBytes.{prepend_known, IsAtEnd};
 ghost use Rattle.qz_io.specs.Counts.{Rose};
 ghost use Rattle.qz_io.specs.Files.{Files, TellsWhether, IsWholeFile};
@@ -23,6 +23,12 @@ pub trait Shelf {
     /// Whether each of its faults is answered: it counts none in a call that doesn't answer `Failed`.
     ghost answers_faults: { Bool };
 
+    /// Whether the open file has told its end. A shelf that doesn't keep this says no.
+    ghost has_ended: { Self → Bool };
+
+    /// How often a file was read after it had told its end.
+    ghost late_reads: { Self → ℕ };
+
     /// Opens the file with this name, at its beginning. Answers false where there is no such file: then no file is open
     /// in the forms of this crate, which the trait doesn't ask.
     fn open(&mut self, name: &str) -> Result<bool, IoFault>
@@ -34,7 +40,9 @@ pub trait Shelf {
         ensures files { files self.new ≡ files self.old }
         ensures failed { result ≡ Err IoFault.Failed → Rose (faults self.old) (faults self.new) }
         ensures faults { faults self.old ≤ faults self.new }
-        ensures answered { IsTrue answers_faults → result ≢ Err IoFault.Failed → faults self.new ≡ faults self.old };
+        ensures answered { IsTrue answers_faults → result ≢ Err IoFault.Failed → faults self.new ≡ faults self.old }
+        ensures begun { result ≡ Ok true → has_ended self.new ≡ false }
+        ensures unread { late_reads self.new ≡ late_reads self.old };
 
     /// Puts the first bytes that are left of the open file at the front of the piece, and answers how many: none of a
     /// piece that isn't empty only at the end of the file.
@@ -48,5 +56,7 @@ pub trait Shelf {
         ensures files { files self.new ≡ files self.old }
         ensures failed { result ≡ Err IoFault.Failed → Rose (faults self.old) (faults self.new) }
         ensures faults { faults self.old ≤ faults self.new }
-        ensures answered { IsTrue answers_faults → result ≢ Err IoFault.Failed → faults self.new ≡ faults self.old };
+        ensures answered { IsTrue answers_faults → result ≢ Err IoFault.Failed → faults self.new ≡ faults self.old }
+        ensures goes_on { result ≢ Ok 0 → has_ended self.new ≡ has_ended self.old }
+        ensures in_time { has_ended self.old ≡ false → late_reads self.new ≡ late_reads self.old };
 }

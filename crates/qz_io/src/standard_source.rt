@@ -1,5 +1,5 @@
 //! Standard input as a source.
-ghost use Rattle.std.specs.Prelude.{◌≡◌, ◌≢◌, ◌≤◌, true, length, None, IfOk};
+ghost use Rattle.std.specs.Prelude.{◌≡◌, ◌≢◌, ◌≤◌, true, false, length, None, IfOk};
 ghost use Rattle.std.specs.Io.KnownBytes.{ReadConsumes};
 ghost use Rattle.qz_io.specs.Counts.{counted};
 ghost use Rattle.qz_io.specs.StdSource.{InputStream};
@@ -47,6 +47,10 @@ impl<R: Read + Drop> Source for StdSource<R> {
     ghost faults = { λ s. s.faults };
 
     ghost answers_faults = { true };
+
+    ghost has_ended = { λ _. false };
+
+    ghost late_reads = { λ _. 0 };
 
     fn read(&mut self, piece: &mut [u8]) -> Result<usize, IoFault>
         ensures within { IfOk result (λ k. k ≤ length piece.old) }

@@ -1,5 +1,5 @@
 //! A shelf in memory that never fails.
-ghost use Rattle.std.specs.Prelude.{◌≡◌, ◌≤◌, ◌<◌, ◌+◌, ◌^◌, ◌++◌, length, min, take, drop, true, is_some, IsTrue, IsNone, IfSome, IfOk, option_map, Some, None, Ok};
+ghost use Rattle.std.specs.Prelude.{◌≡◌, ◌≤◌, ◌<◌, ◌+◌, ◌^◌, ◌++◌, length, min, take, drop, true, false, is_some, IsTrue, IsNone, IfSome, IfOk, option_map, Some, None, Ok};
 ghost use Rattle.qz_io.specs.Files.{files_of};
 ghost use Rattle.qz_io.specs.SureSource.{at_beginning, after};
 ghost use Rattle.qz_io.specs.SureShelf.{rest_of, reading_of, bytes_at};
@@ -106,6 +106,10 @@ impl Shelf for SureShelf {
     ghost faults = { λ _. 0 };
 
     ghost answers_faults = { true };
+
+    ghost has_ended = { λ _. false };
+
+    ghost late_reads = { λ _. 0 };
 
     fn open(&mut self, name: &str) -> Result<bool, IoFault>
         ensures found { result ≡ Ok (is_some (files_of self.old.files name.now)) }

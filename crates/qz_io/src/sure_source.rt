@@ -1,5 +1,5 @@
 //! A source in memory that never fails.
-ghost use Rattle.std.specs.Prelude.{◌≡◌, ◌≤◌, ◌++◌, length, min, take, drop, true, Ok, Some, IfOk};
+ghost use Rattle.std.specs.Prelude.{◌≡◌, ◌≤◌, ◌++◌, length, min, take, drop, true, false, Ok, Some, IfOk};
 ghost use Rattle.qz_io.specs.SureSource.{at_beginning, after};
 
 use crate::copying::put_front;
@@ -66,6 +66,10 @@ impl Source for SureSource {
     ghost faults = { λ _. 0 };
 
     ghost answers_faults = { true };
+
+    ghost has_ended = { λ _. false };
+
+    ghost late_reads = { λ _. 0 };
 
     fn read(&mut self, piece: &mut [u8]) -> Result<usize, IoFault>
         ensures amount { result ≡ Ok (min (length piece.old) (length self.old.left)) }

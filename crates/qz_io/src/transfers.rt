@@ -1,5 +1,5 @@
 //! The loops that write a whole text, or read a whole input.
-ghost use Rattle.std.specs.Prelude.{◌≡◌, ◌≢◌, ℕ, ◌<◌, ◌≤◌, Bool, true, IsTrue, List, Option, None, length, vec_len, IfOk, OnOk, OnErr};
+ghost use Rattle.std.specs.Prelude.{◌≡◌, ◌≢◌, ℕ, ◌<◌, ◌≤◌, Bool, true, false, Ok, IsTrue, List, Option, None, length, vec_len, IfOk, OnOk, OnErr};
 ghost use Rattle.std.specs.Io.KnownBytes.{append_known};
 ghost use Rattle.qz_io.specs.Counts.{Rose};
 ghost use Rattle.qz_io.specs.Files.{Files};
@@ -60,11 +60,19 @@ trait Feed<S> {
     // Whether each of its faults is answered.
     ghost answers_faults: { Bool };
 
+    // Whether the end was told.
+    ghost has_ended: { S → Bool };
+
+    // How often it was read after that.
+    ghost late_reads: { S → ℕ };
+
     fn read(from: &mut S, piece: &mut [u8]) -> Result<usize, IoFault>
         requires { IsTrue (is_ready from.old) }
         ensures read { IsRead (length piece.old) result piece.new (input_of left faults answers_faults from.old from.new) }
         ensures still_ready { IsTrue (is_ready from.new) }
-        ensures files { files from.new ≡ files from.old };
+        ensures files { files from.new ≡ files from.old }
+        ensures goes_on { result ≢ Ok 0 → has_ended from.new ≡ has_ended from.old }
+        ensures in_time { has_ended from.old ≡ false → late_reads from.new ≡ late_reads from.old };
 }
 
 // Reads from a source.
@@ -80,6 +88,10 @@ impl<I: Source> Feed<I> for FromSource {
     ghost faults = { I.faults };
 
     ghost answers_faults = { I.answers_faults };
+
+    ghost has_ended = { I.has_ended };
+
+    ghost late_reads = { I.late_reads };
 
     fn read(from: &mut I, piece: &mut [u8]) -> Result<usize, IoFault> {
         from.read(piece)
@@ -100,6 +112,10 @@ impl<F: Shelf> Feed<F> for FromOpenFile {
 
     ghost answers_faults = { F.answers_faults };
 
+    ghost has_ended = { F.has_ended };
+
+    ghost late_reads = { F.late_reads };
+
     fn read(from: &mut F, piece: &mut [u8]) -> Result<usize, IoFault> {
         from.read(piece)
     }
@@ -116,6 +132,8 @@ fn read_at_most<S, W: Feed<S>>(
     ensures read { IsRead most result buffer.new (input_of W.left W.faults W.answers_faults from.old from.new) }
     ensures still_ready { IsTrue (W.is_ready from.new) }
     ensures files { W.files from.new ≡ W.files from.old }
+    ensures goes_on { result ≢ Ok 0 → W.has_ended from.new ≡ W.has_ended from.old }
+    ensures in_time { W.has_ended from.old ≡ false → W.late_reads from.new ≡ W.late_reads from.old }
 {
     W::read(from, &mut buffer[..most])
 }
@@ -143,6 +161,7 @@ fn read_pieces<S, W: Feed<S>>(
     ensures read { IsReadWhole limit result (input_of W.left W.faults W.answers_faults from.old from.new) }
     ensures still_ready { IsTrue (W.is_ready from.new) }
     ensures files { W.files from.new ≡ W.files from.old }
+    ensures in_time { W.has_ended from.old ≡ false → W.late_reads from.new ≡ W.late_reads from.old }
 {
     let mut bytes = Vec::new(alloc);
     'pieces: loop {
@@ -162,20 +181,22 @@ fn read_pieces<S, W: Feed<S>>(
     }
 }
 
-/// Reads all that is left of a source, or to one byte past the limit.
+/// Reads all that is left of a source, or to one byte past the limit. A source that told its end is not read again.
 pub fn read_source<I: Source>(alloc: Global, input: &mut I, limit: u64) -> Result<Vec<u8>, Unread>
     ensures read { IsReadWhole limit result (source_shown I.Source input.old input.new) }
+    ensures in_time { I.has_ended input.old ≡ false → I.late_reads input.new ≡ I.late_reads input.old }
 {
     let mut buffer = empty_buffer(alloc)?;
     read_pieces::<I, FromSource>(alloc, input, &mut buffer, limit)
 }
 
-/// Reads all that is left of a shelf's open file, or to one byte past the limit.
+/// Reads all that is left of a shelf's open file, or to one byte past the limit. A file that told its end is not read again.
 pub fn read_file<F: Shelf>(alloc: Global, shelf: &mut F, limit: u64) -> Result<Vec<u8>, Unread>
     requires { IsTrue (F.is_open shelf.old) }
     ensures read { IsReadWhole limit result (file_shown F.Shelf shelf.old shelf.new) }
     ensures still_open { IsTrue (F.is_open shelf.new) }
     ensures files { F.files shelf.new ≡ F.files shelf.old }
+    ensures in_time { F.has_ended shelf.old ≡ false → F.late_reads shelf.new ≡ F.late_reads shelf.old }
 {
     let mut buffer = empty_buffer(alloc)?;
     read_pieces::<F, FromOpenFile>(alloc, shelf, &mut buffer, limit)

@@ -1,6 +1,6 @@
 //! What `optimise` writes for some programs, why it refuses some rule files without reading the input, and how it ends where the
 //! outside fails.
-ghost use Rattle.std.specs.Prelude.{true, None};
+ghost use Rattle.std.specs.Prelude.{true, false, None};
 
 use qz_circ::{Inst, Memory, QasmFault, RuleFault, Which};
 use qz_io::{IoFault, MemShelf, MemSink, MemSource, Named, Shelf, SureSink};
@@ -353,6 +353,10 @@ impl Shelf for Counting {
     ghost faults = { λ _. 0 };
 
     ghost answers_faults = { true };
+
+    ghost has_ended = { λ _. false };
+
+    ghost late_reads = { λ _. 0 };
 
     fn open(&mut self, name: &str) -> Result<bool, IoFault> {
         if name == "r" {
