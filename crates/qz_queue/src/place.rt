@@ -43,25 +43,17 @@ fn compare_gates(a: &[Inst], c: &[Inst], from: usize) -> (Ordering, usize)
     (Ordering::Equal, k)
 }
 
-// Where to look among circuits in order: how many are shorter than one of this length, and how many are no longer.
-fn alike_in_length(list: &[Vec<Inst>], n: usize) -> (usize, usize) {
-    let from = list.partition_point(|d| d.len() < n);
-    let to = list.partition_point(|d| d.len() <= n);
-    (from, to)
-}
-
-// The next number to look at, from low on and below high: the last of those that are equally long at first, then the first of them, and
-// from then on one in the middle. So there are soon equally long circuits on both sides, and what they have alike isn't compared
-// again.
-fn probe(low: usize, high: usize, count: usize, equals: (usize, usize)) -> usize
+// The next number to look at, from low on and below high: the last of all at first, then the first of all, and from then on one
+// in the middle. So there are soon circuits on both sides, and what they have alike isn't compared again.
+fn probe(low: usize, high: usize, count: usize) -> usize
     requires { low < high }
     ensures from { low ≤ result }
     ensures below { result < high }
 {
     if high == count {
-        equals.1.saturating_sub(1).max(low).min(high - 1)
+        high - 1
     } else if low == 0 {
-        equals.0.min(high - 1)
+        0
     } else {
         low + (high - low) / 2
     }
@@ -75,14 +67,13 @@ pub(crate) fn find(list: &[Vec<Inst>], c: &[Inst]) -> (usize, bool)
     ensures bound { result.0 ≤ length list.now }
     ensures there { result.1 ≡ is_among (lists_of list.now) c.now }
 {
-    let equals = alike_in_length(list, c.len());
     let mut found = false;
     let mut low = 0;
     let mut high = list.len();
     let mut low_same = 0;
     let mut high_same = 0;
     while low < high {
-        let middle = probe(low, high, list.len(), equals);
+        let middle = probe(low, high, list.len());
         let (order, same) = compare_from(list, middle, c, low_same.min(high_same));
         if order.is_lt() {
             low = middle + 1;
