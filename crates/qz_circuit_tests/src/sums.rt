@@ -148,3 +148,40 @@ fn powers_add_up_and_order_the_terms(rt: HostRuntime) -> Result<(), Fail> {
     assert!(rt; leading(&product) == Some((exponent(88, [0, 0, 7]), 1)));
     Ok(())
 }
+
+// One, turned.
+fn turned_by(alloc: Global, turn: u8) -> Result<Elem, Memory> {
+    let mut turned = Elem::one(alloc)?;
+    turned.shift(Exponent {
+        turn: turn as u16,
+        powers: [0; 3],
+    });
+    Ok(turned)
+}
+
+// Whether the first sum is the second one, turned.
+#[tactic(auto, using(qz_ring::proofs::Sums::reach_times_le))]
+fn is_turned_by(product: &Elem, sum: &Elem, turn: u8) -> bool {
+    let _terms = sum.terms();
+    product.is_product(
+        sum,
+        Exponent {
+            turn: turn as u16,
+            powers: [0; 3],
+        },
+    )
+}
+
+// Root two, turned by a quarter of a circle, is an eighth of a circle and three eighths together, whose order is another.
+#[test]
+fn a_quarter_turn_of_root2_is_its_product(rt: HostRuntime) -> Result<(), Fail> {
+    let mut root = one(rt.alloc())?;
+    times_root2(&rt, &mut root)?;
+    let mut turned = turned_by(rt.alloc(), 64)?;
+    add(&rt, &mut turned, &turned_by(rt.alloc(), 192)?)?;
+    assert!(rt; is_turned_by(&turned, &root, 128));
+    assert!(rt; !is_turned_by(&turned, &root, 64));
+    assert!(rt; !is_turned_by(&root, &turned, 128));
+    assert!(rt; !is_turned_by(&one(rt.alloc())?, &root, 128));
+    Ok(())
+}
