@@ -1,4 +1,4 @@
-//! Tests of circuits and their order, of their sums and matrices, and of how they are put into classes.
+//! Tests of circuits and their order, of their sums and matrices, of which programs are equivalent, and of how they are put into classes.
 #![tactic(auto)]
 
 #[cfg(test)]
@@ -13,6 +13,8 @@ mod generation;
 mod matrices;
 #[cfg(test)]
 mod orders;
+#[cfg(test)]
+mod programs;
 #[cfg(test)]
 mod shards;
 #[cfg(test)]
