@@ -12,7 +12,7 @@ use Rattle.qz_circ.specs.declared.circuit.Expr.{Expr}
 use Rattle.qz_circ.specs.declared.circuit.Expr.TheVariants.{Const, Plus, Minus, Sum}
 use Rattle.qz_circ.specs.declared.circuit.Op.{Op}
 use Rattle.qz_circ.specs.declared.circuit.Op.TheVariants.{H, X, Cx, Rz}
-use Rattle.qz_circ.specs.Circuit.{Limits, Circuit, gates_of, angles, below, between, ActsBelow, AngleHasBelow, HasBelow, IsOn}
+use Rattle.qz_circ.specs.Circuit.{Limits, Circuit, gates_of, constant_of, multiple_of, constants, angles, below, between, ActsBelow, AngleHasBelow, HasBelow, IsOn}
 use Rattle.qz_circ.specs.Bounds.{IsLawful}
 use Rattle.qz_circ.specs.Order.{gate_cmp, gate_key}
 use Rattle.qz_circ.proofs.BoundsLemmas.{in_range}
@@ -29,7 +29,7 @@ table_length q m = q * (1 + q + angle_count m)
 -- the angle with this number
 abbrev pub angle_at : ℕ → ℕ → Expr
 angle_at m k =
-    cond (ltb k 7) (Const (k + 1))
+    cond (ltb k 7) (Const (constant_of (k + 1)))
     (cond (ltb (k - 7) m) (Plus (k - 7))
     (cond (ltb (k - 7) (2 * m)) (Minus (k - 7 - m))
     (cond (eqb (k - 7 - 2 * m) 0) (Sum 0 1)
@@ -37,7 +37,7 @@ angle_at m k =
 
 -- the number of an angle, if it is one of those with m parameters
 abbrev pub angle_number : ℕ → Expr → ℕ
-angle_number m (Const t) = t - 1
+angle_number m (Const t) = multiple_of t - 1
 angle_number m (Plus i) = 7 + i
 angle_number m (Minus i) = 7 + m + i
 angle_number m (Sum i j) = 6 + 2 * m + i + j
@@ -188,12 +188,12 @@ gates_rising b h =
 angles_below : (m : ℕ) → AllByRecursion (AngleHasBelow m) (angles m)
 unfolding angles
 angles_below m =
-    let consts = each-map (AngleHasBelow m) Const (range_with_len 1 7) (each_of_all (λ t. AngleHasBelow m (Const t)) (λ t. tt) (range_with_len 1 7)) in
+    let consts = each-map (AngleHasBelow m) (λ k. Const (constant_of k)) (range_with_len 1 7) (each_of_all (λ k. AngleHasBelow m (Const (constant_of k))) (λ k. tt) (range_with_len 1 7)) in
     let pluses = each-map (AngleHasBelow m) Plus (below m) (each_weaker (λ k. (0 ≤ k) × (k < 0 + m)) (λ k. k < m) (λ k h. omega arith) (below m) (each-range 0 m)) in
     let minuses = each-map (AngleHasBelow m) Minus (below m) (each_weaker (λ k. (0 ≤ k) × (k < 0 + m)) (λ k. k < m) (λ k h. omega arith) (below m) (each-range 0 m)) in
     let sums = each-flat_map (AngleHasBelow m) (λ i. map (Sum i) (between i m)) (below m) (each_weaker (λ k. (0 ≤ k) × (k < 0 + m)) (λ i. AllByRecursion (AngleHasBelow m) (map (Sum i) (between i m))) sum_below (below m) (each-range 0 m)) in
-    each-append (AngleHasBelow m) (map Const (range_with_len 1 7) ++ map Plus (below m) ++ map Minus (below m)) (flat_map (λ i. map (Sum i) (between i m)) (below m))
-    (each-append (AngleHasBelow m) (map Const (range_with_len 1 7) ++ map Plus (below m)) (map Minus (below m)) (each-append (AngleHasBelow m) (map Const (range_with_len 1 7)) (map Plus (below m)) consts pluses) minuses) sums
+    each-append (AngleHasBelow m) (constants ++ map Plus (below m) ++ map Minus (below m)) (flat_map (λ i. map (Sum i) (between i m)) (below m))
+    (each-append (AngleHasBelow m) (constants ++ map Plus (below m)) (map Minus (below m)) (each-append (AngleHasBelow m) (constants) (map Plus (below m)) consts pluses) minuses) sums
   where
     sum_below : (i : ℕ) → (0 ≤ i) × (i < 0 + m) → AllByRecursion (AngleHasBelow m) (map (Sum i) (between i m))
     sum_below i h = each-map (AngleHasBelow m) (Sum i) (between i m) (each_weaker (λ j. (i + 1 ≤ j) × (j < i + 1 + (m - (i + 1)))) (λ j. AngleHasBelow m (Sum i j)) (λ j l. (omega arith, omega arith, omega arith)) (between i m) (each-range (i + 1) (m - (i + 1))))

@@ -1,5 +1,5 @@
 -- Gates and circuits, and which of them are within limits.
-use Rattle.std.specs.Prelude.{◌≢◌, ℕ, ◌+◌, ◌-◌, ◌<◌, ◌≤◌, ◌==◌, not, List, ◌++◌, map, filter, length, Contains}
+use Rattle.std.specs.Prelude.{◌≢◌, ℕ, ◌+◌, ◌-◌, ◌*◌, ◌/◌, ◌<◌, ◌≤◌, ◌==◌, not, List, ◌++◌, map, filter, length, Contains}
 use Rattle.std.specs.List.{range_with_len, flat_map, AllByRecursion}
 use Rattle.qz_circ.specs.declared.circuit.Expr.{Expr}
 use Rattle.qz_circ.specs.declared.circuit.Expr.TheVariants.{Const, Plus, Minus, Sum}
@@ -24,10 +24,22 @@ below n = range_with_len 0 n
 abbrev pub between : ℕ → ℕ → List ℕ
 between i n = range_with_len (i + 1) (n - (i + 1))
 
+-- the constant that is this multiple of π/4, in sixteenths of π
+abbrev pub constant_of : ℕ → ℕ
+constant_of k = 4 * k
+
+-- which multiple of π/4 a constant is
+abbrev pub multiple_of : ℕ → ℕ
+multiple_of t = t / 4
+
+-- the constants of rules, in order: the multiples of π/4 below a full circle
+abbrev pub constants : List Expr
+constants = map (λ k. Const (constant_of k)) (range_with_len 1 7)
+
 -- the angles of rules with m parameters, in order: the constants, the parameters, their negatives, the sums of two
 unfoldable pub angles : ℕ → List Expr
 angles m =
-    map Const (range_with_len 1 7) ++ map Plus (below m) ++ map Minus (below m) ++
+    constants ++ map Plus (below m) ++ map Minus (below m) ++
     flat_map (λ i. map (Sum i) (between i m)) (below m)
 
 -- the gates within the limits, in order: all H by qubit, all X by qubit, all CX by control and then target,

@@ -47,16 +47,20 @@ with_turns e k = record e { turn = (e.turn + k) % 512 }
 abbrev pub same_exponent : Exponent → Exponent → Bool
 same_exponent d e = d.turn == e.turn && int_eq d.x0 e.x0 && int_eq d.x1 e.x1 && int_eq d.x2 e.x2
 
--- the exponent of e^(iθ) at a rule's angle θ; Const(t) is t·π/4, which is 64·t turns
+-- the turn of Const(t), which is t·π/16: 16·t turns, modulo 512
+abbrev pub constant_turn : ℕ → ℕ
+constant_turn t = 16 * t % 512
+
+-- the exponent of e^(iθ) at a rule's angle θ
 abbrev pub angle_exponent : Expr → Exponent
-angle_exponent (Const t) = turn_of (64 * t)
+angle_exponent (Const t) = record { turn = constant_turn t; x0 = pos 0; x1 = pos 0; x2 = pos 0 }
 angle_exponent (Plus i) = param i
 angle_exponent (Minus i) = minus zero_exponent (param i)
 angle_exponent (Sum i j) = plus (param i) (param j)
 
 -- a rule's angle as a number of turns, where the parameter with number i stands for p i turns, below 512
 abbrev pub angle_value : (ℕ → ℕ) → Expr → ℕ
-angle_value p (Const t) = 64 * t % 512
+angle_value p (Const t) = constant_turn t
 angle_value p (Plus i) = p i % 512
 angle_value p (Minus i) = (512 - p i % 512) % 512
 angle_value p (Sum i j) = (p i + p j) % 512

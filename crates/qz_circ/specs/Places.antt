@@ -1,5 +1,5 @@
 -- The places of a rule in a program: the lists of positions whose gates bind to the rule's left side and gather.
-use Rattle.std.specs.Prelude.{ℕ, zero, suc, ◌+◌, ◌-◌, ◌*◌, ◌%◌, ◌==◌, ◌&&◌, ◌||◌, Bool, true, false, not, if◌then◌else◌, List, [], ◌∷◌, ◌++◌, map, length, nat_lt, slice_set, Option, Some, None}
+use Rattle.std.specs.Prelude.{ℕ, zero, suc, ◌+◌, ◌-◌, ◌%◌, ◌==◌, ◌&&◌, ◌||◌, Bool, true, false, not, if◌then◌else◌, List, [], ◌∷◌, ◌++◌, map, length, nat_lt, slice_set, Option, Some, None}
 use Rattle.std.specs.List.{flat_map, list_any, list_all, filter_map}
 use Rattle.std.specs.Option.{option_map}
 use Rattle.qz_circ.specs.declared.binding.Binding.{Binding}
@@ -10,6 +10,7 @@ use Rattle.qz_circ.specs.declared.circuit.Op.TheVariants.{H, X, Cx, Rz}
 use Rattle.qz_circ.specs.declared.circuit.Inst.{Inst}
 use Rattle.qz_circ.specs.declared.circuit.Inst.TheVariants.{H as ProgramH, X as ProgramX, Cx as ProgramCx, Rz as ProgramRz}
 use Rattle.qz_circ.specs.Circuit.{Circuit}
+use Rattle.qz_circ.specs.Exponent.{constant_turn}
 use Rattle.qz_circ.specs.Gathering.{marked, selected, gathers}
 use Rattle.qz_circ.specs.Instances.{slot}
 use Rattle.qz_circ.specs.ProgramCircuits.{ProgramCircuit}
@@ -111,7 +112,7 @@ bind_qubits slots ss ws = None
 
 -- the value of an angle, where its parameters have values
 abbrev pub value_of_angle : Slots → Expr → Option ℕ
-value_of_angle slots (Const t) = Some (64 * t % 512)
+value_of_angle slots (Const t) = Some (constant_turn t)
 value_of_angle slots (Plus i) = slot slots i
 value_of_angle slots (Minus i) = option_map (λ v. (512 - v) % 512) (slot slots i)
 value_of_angle slots (Sum i j) = and_then (slot slots i) (λ v. option_map (λ w. (v + w) % 512) (slot slots j))

@@ -6,13 +6,13 @@ use Rattle.qz_circ.specs.declared.circuit.Expr.{Expr}
 use Rattle.qz_circ.specs.declared.circuit.Expr.TheVariants.{Const, Plus, Minus, Sum}
 use Rattle.qz_circ.specs.declared.circuit.Op.{Op}
 use Rattle.qz_circ.specs.declared.circuit.Op.TheVariants.{H, X, Cx, Rz}
-use Rattle.qz_circ.specs.Circuit.{Circuit, Limits}
+use Rattle.qz_circ.specs.Circuit.{Circuit, Limits, multiple_of}
 use Rattle.qz_circ.specs.Joined.{circuits_of_ranks}
 use Rattle.qz_circ.specs.Lines.{line}
 
--- an angle, as 1, p0, -p0 or p0+p1
+-- an angle, as 1 for π/4, p0, -p0 or p0+p1
 unfoldable pub expression_text : Expr → List ℕ
-expression_text (Const t) = decimal t
+expression_text (Const t) = decimal (multiple_of t)
 expression_text (Plus i) = codes "p" ++ decimal i
 expression_text (Minus i) = codes "-p" ++ decimal i
 expression_text (Sum i j) = codes "p" ++ decimal i ++ codes "+p" ++ decimal j

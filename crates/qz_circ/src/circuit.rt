@@ -3,7 +3,7 @@
 /// The angle of a rotation in a rule.
 #[derive(Clone, Copy, PartialEq, Eq, PartialOrd, Ord)]
 pub enum Expr {
-    /// A number from 1 to 7, of eighths of a full circle (π/4).
+    /// This number of sixteenths of π, which is π/16 at 1. Within bounds it is 4, 8, 12, 16, 20, 24 or 28, a multiple of π/4.
     Const(u8),
     /// The parameter with this number, from 0 on.
     Plus(u8),

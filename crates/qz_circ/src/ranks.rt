@@ -7,6 +7,7 @@ ghost use Rattle.qz_circ.specs.Classes.{without_first, without_last};
 
 use crate::bound::{Bounds, count_angles};
 use crate::circuit::{Expr, Op};
+use crate::constant::{constant_of, multiple_of};
 use crate::fault::Memory;
 use std::alloc::Global;
 
@@ -20,7 +21,7 @@ fn angle_of(number: u64, m: u64) -> Option<Expr>
         return None;
     }
     if number < 7 {
-        return Some(Expr::Const(number as u8 + 1));
+        return Some(Expr::Const(constant_of(number as u8 + 1)));
     }
     let parameter = number as u8 - 7;
     let params = m as u8;
@@ -44,7 +45,7 @@ fn angle_place(angle: Expr, m: u64) -> u64
     ensures few { result ≤ 522 }
 {
     match angle {
-        Expr::Const(t) => u64::from(t.saturating_sub(1)),
+        Expr::Const(t) => u64::from(multiple_of(t)).saturating_sub(1),
         Expr::Plus(i) => 7 + u64::from(i),
         Expr::Minus(i) => 7 + m + u64::from(i),
         Expr::Sum(i, j) => 6 + 2 * m + u64::from(i) + u64::from(j),

@@ -14,8 +14,8 @@ ghost use Rattle.qz_circ.specs.ProgramCircuits.{IsProgramGate, IsProgramCircuit,
 /// and the last is two rotations by 7π/4.
 pub fn ranks_of_two_gates()
     ensures circuits { length (all_circuits (record { n = 2; q = 1; m = 0 })) ≡ 91 }
-    ensures at_21 { rank (record { n = 2; q = 1; m = 0 }) (X 0 ∷ Rz 0 (Const 1) ∷ []) ≡ 21 }
-    ensures last { circuit_at (record { n = 2; q = 1; m = 0 }) 90 ≡ Rz 0 (Const 7) ∷ Rz 0 (Const 7) ∷ [] }
+    ensures at_21 { rank (record { n = 2; q = 1; m = 0 }) (X 0 ∷ Rz 0 (Const 4) ∷ []) ≡ 21 }
+    ensures last { circuit_at (record { n = 2; q = 1; m = 0 }) 90 ≡ Rz 0 (Const 28) ∷ Rz 0 (Const 28) ∷ [] }
 {}
 
 /// With one parameter there are 133 circuits of at most two gates on one qubit. With three parameters there are 16
@@ -34,11 +34,11 @@ pub fn control_comes_first()
     ensures keeps { count (paths 2 (Cx 0 1 ∷ []) 2 2) zero_exponent ≡ pos 1 }
 {}
 
-/// A rotation by π/4 multiplies the qubit's 1 by ζ^64, one by a parameter by its unknown, one by the negative of a
+/// A rotation by π/16 multiplies the qubit's 1 by ζ^16, one by a parameter by its unknown, one by the negative of a
 /// parameter by the inverse, and one by a sum by both. The last leaves the 0 as it is.
 #[tactic(auto, unfolding(crate::specs::Paths::entry, crate::specs::Paths::ways_through, crate::specs::Paths::identity_ways, crate::specs::Paths::ways_along, crate::specs::Paths::paths, crate::specs::Paths::total, crate::specs::Paths::count))]
 pub fn rotations_multiply_by_their_angle()
-    ensures constant { count (paths 1 (Rz 0 (Const 1) ∷ []) 1 1) (turn_of 64) ≡ pos 1 }
+    ensures constant { count (paths 1 (Rz 0 (Const 1) ∷ []) 1 1) (turn_of 16) ≡ pos 1 }
     ensures parameter { count (paths 1 (Rz 0 (Plus 1) ∷ []) 1 1) (record { turn = 0; x0 = pos 0; x1 = pos 1; x2 = pos 0 }) ≡ pos 1 }
     ensures negative { count (paths 1 (Rz 0 (Minus 2) ∷ []) 1 1) (record { turn = 0; x0 = pos 0; x1 = pos 0; x2 = negsuc 0 }) ≡ pos 1 }
     ensures sum { count (paths 1 (Rz 0 (Sum 0 2) ∷ []) 1 1) (record { turn = 0; x0 = pos 1; x1 = pos 0; x2 = pos 1 }) ≡ pos 1 }
@@ -73,10 +73,10 @@ pub fn program_circuits_come_in_order()
     ensures lengths { program_cmp (ProgramX 0 ∷ ProgramX 0 ∷ []) (ProgramRz 1 1 ∷ []) ≡ Greater }
 {}
 
-/// With parameters 0 and 1 bound to 100 and 500 turns, π/4 is 64 turns, the negative of parameter 0 is 412, and the
+/// With parameters 0 and 1 bound to 100 and 500 turns, 33·π/16 is 16 turns, the negative of parameter 0 is 412, and the
 /// sum is 88.
 pub fn angles_have_values()
-    ensures constant { angle_value (λ i. 100 + 400 * i) (Const 1) ≡ 64 }
+    ensures constant { angle_value (λ i. 100 + 400 * i) (Const 33) ≡ 16 }
     ensures negative { angle_value (λ i. 100 + 400 * i) (Minus 0) ≡ 412 }
     ensures sum { angle_value (λ i. 100 + 400 * i) (Sum 0 1) ≡ 88 }
 {}

@@ -70,8 +70,8 @@ fn number_of(gate: Op, b: Bounds) -> Option<u64> {
 fn ranks_two_gates_on_one_qubit(rt: HostRuntime) -> Result<(), Fail> {
     let b = bounds(2, 1, 0)?;
     assert!(rt; sizes(b) == [2, 1, 0, 9, 91]);
-    let first = Op::Rz(0, Expr::Const(1));
-    let last = Op::Rz(0, Expr::Const(7));
+    let first = Op::Rz(0, Expr::Const(4));
+    let last = Op::Rz(0, Expr::Const(28));
     assert!(rt; rank_of(&[Op::X(0), first], b) == Some(21));
     assert!(rt; rank_of(&[first, first, first], b).is_none());
     assert!(rt; length_at(21, b) == Some(2));
@@ -82,6 +82,9 @@ fn ranks_two_gates_on_one_qubit(rt: HostRuntime) -> Result<(), Fail> {
     assert!(rt; gate_at(9, b).is_none());
     assert!(rt; number_of(last, b) == Some(8));
     assert!(rt; number_of(Op::H(1), b).is_none());
+    for finer in [1, 2, 5, 30] {
+        assert!(rt; number_of(Op::Rz(0, Expr::Const(finer)), b).is_none());
+    }
     Ok(())
 }
 

@@ -46,7 +46,7 @@ const X: Op = Op::X(0);
 // Circuits that are equal, or equal up to a phase.
 #[test]
 fn equivalent_circuits(rt: HostRuntime) -> Result<(), Fail> {
-    let half_turn = Op::Rz(0, Expr::Const(4));
+    let half_turn = Op::Rz(0, Expr::Const(16));
     let alloc = rt.alloc();
     assert!(rt; decision(alloc, &[H, H], &[], 1)?, "two H are none");
     assert!(rt; decision(alloc, &[X, X], &[], 1)?, "two X are none");
@@ -64,6 +64,16 @@ fn equivalent_circuits(rt: HostRuntime) -> Result<(), Fail> {
         decision(alloc, &[X, forwards], &[backwards, X], 1)?,
         "a phase that is a parameter"
     );
+    let sixteenth = Op::Rz(0, Expr::Const(1));
+    assert!(rt;
+        decision(
+            alloc,
+            &[sixteenth, Op::Rz(0, Expr::Const(15))],
+            &[half_turn],
+            1
+        )?,
+        "sixteen sixteenths of π"
+    );
     let over = [Op::Cx(0, 1), Op::Cx(1, 2), Op::Cx(0, 1), Op::Cx(1, 2)];
     assert!(rt;
         decision(alloc, &over, &[Op::Cx(0, 2)], 3)?,
@@ -75,12 +85,16 @@ fn equivalent_circuits(rt: HostRuntime) -> Result<(), Fail> {
 // Circuits that are different up to any phase.
 #[test]
 fn different_circuits(rt: HostRuntime) -> Result<(), Fail> {
-    let eighth = Op::Rz(0, Expr::Const(1));
-    let quarter = Op::Rz(0, Expr::Const(2));
+    let eighth = Op::Rz(0, Expr::Const(4));
+    let quarter = Op::Rz(0, Expr::Const(8));
     let alloc = rt.alloc();
     assert!(rt;
         !decision(alloc, &[eighth], &[quarter], 1)?,
         "one and two eighths"
+    );
+    assert!(rt;
+        !decision(alloc, &[eighth], &[Op::Rz(0, Expr::Const(5))], 1)?,
+        "four and five sixteenths of π"
     );
     assert!(rt; !decision(alloc, &[H], &[], 1)?, "H and none");
     assert!(rt; !decision(alloc, &[X], &[eighth], 1)?, "X and an eighth");

@@ -48,7 +48,7 @@ fn numbers_of_circuits(rt: HostRuntime) {
         [1926410559791906799, 764979505078680971],
     );
     assert_prints(rt, 1, &[FLIP], [15639118267708097995, 13708602925647616246]);
-    let third = Op::Rz(0, Expr::Const(3));
+    let third = Op::Rz(0, Expr::Const(12));
     assert_prints(rt, 1, &[third], [2565407166587150359, 3578384561245581260]);
     let plus = Op::Rz(0, Expr::Plus(1));
     assert_prints(rt, 1, &[plus], [7309696094292487558, 12590565860326366130]);
@@ -70,7 +70,7 @@ fn numbers_of_circuits(rt: HostRuntime) {
     );
     let sum = Op::Rz(1, Expr::Sum(0, 1));
     let minus = Op::Rz(1, Expr::Minus(1));
-    let last = Op::Rz(0, Expr::Const(7));
+    let last = Op::Rz(0, Expr::Const(28));
     let mixed = [Op::H(1), sum, Op::Cx(0, 1), minus, FLIP, Op::H(0), last];
     assert_prints(rt, 2, &mixed, [4396160642803763154, 7086080450482914633]);
 }
@@ -79,7 +79,7 @@ fn numbers_of_circuits(rt: HostRuntime) {
 #[test]
 fn one_gate_more(rt: HostRuntime) {
     let plus = Op::Rz(0, Expr::Plus(0));
-    let eighth = Op::Rz(2, Expr::Const(1));
+    let eighth = Op::Rz(2, Expr::Const(4));
     let front = [
         Op::H(2),
         Op::Cx(2, 0),
@@ -94,7 +94,7 @@ fn one_gate_more(rt: HostRuntime) {
     assert!(rt; first == 12591762476821673655, "seed 0");
     let second = print_with(42, 3, &front, last);
     assert!(rt; second == 9280579882001791013, "seed 42");
-    let quarter = Op::Rz(0, Expr::Const(2));
+    let quarter = Op::Rz(0, Expr::Const(8));
     let front = [Op::H(1), quarter, Op::Cx(1, 0)];
     let both = Op::Rz(1, Expr::Sum(0, 2));
     for op in [Op::H(0), Op::X(1), Op::Cx(0, 1), both] {
@@ -120,9 +120,14 @@ fn equivalent_circuits_share_one(rt: HostRuntime) {
         assert!(rt; none == twice, "two H are none");
     }
     let none = print_of(0, 1, &[]);
-    let eighth = print_of(0, 1, &[Op::Rz(0, Expr::Const(1))]);
-    let quarter = print_of(0, 1, &[Op::Rz(0, Expr::Const(2))]);
+    let eighth = print_of(0, 1, &[Op::Rz(0, Expr::Const(4))]);
+    let quarter = print_of(0, 1, &[Op::Rz(0, Expr::Const(8))]);
     assert!(rt; none != eighth, "one eighth is no whole circle");
+    let sixteenth = Op::Rz(0, Expr::Const(1));
+    let finer = print_of(0, 1, &[sixteenth, Op::Rz(0, Expr::Const(3))]);
+    assert!(rt; finer == eighth, "π/16 and 3·π/16 are π/4");
+    let one = print_of(0, 1, &[sixteenth]);
+    assert!(rt; one != none && one != eighth, "π/16 is neither");
     assert!(rt; eighth != quarter, "one eighth is not two");
     let first = print_of(0, 1, &[plus]);
     let second = print_of(0, 1, &[Op::Rz(0, Expr::Plus(1))]);

@@ -49,15 +49,15 @@ fn circuits_of_rules_rise(rt: HostRuntime) {
         Op::Cx(0, 1),
         Op::Cx(0, 2),
         Op::Cx(1, 0),
-        Op::Rz(0, Expr::Const(1)),
-        Op::Rz(0, Expr::Const(7)),
+        Op::Rz(0, Expr::Const(4)),
+        Op::Rz(0, Expr::Const(28)),
         Op::Rz(0, Expr::Plus(0)),
         Op::Rz(0, Expr::Plus(2)),
         Op::Rz(0, Expr::Minus(0)),
         Op::Rz(0, Expr::Sum(0, 1)),
         Op::Rz(0, Expr::Sum(0, 2)),
         Op::Rz(0, Expr::Sum(1, 2)),
-        Op::Rz(1, Expr::Const(1)),
+        Op::Rz(1, Expr::Const(4)),
     ];
     assert!(rt; gates_rise(&gates), "gates");
     let last = Op::Rz(2, Expr::Sum(1, 2));

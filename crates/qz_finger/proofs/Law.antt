@@ -11,15 +11,15 @@ use Rattle.qz_finger.proofs.Modular.{Same, same_by, same_mul}
 use Rattle.qz_finger.proofs.WayValues.{IsValue}
 use Rattle.qz_finger.proofs.WeighedSums.{weighed_scaled, inverse_powers, same_products}
 use Rattle.qz_finger.proofs.Bases.{AreBases, value_at, is_value, values_inverse}
-use Rattle.qz_finger.proofs.Eighths.{eighths_paths, value_of_eighths}
+use Rattle.qz_finger.proofs.Sixteenths.{sixteenths_paths, value_of_sixteenths}
 
--- one turn, whose power to 64 is 2^24
+-- one turn, whose power to 16 is 2^6
 abbrev pub turn_root : ℕ
-turn_root = 408281368649950045
+turn_root = 3870163035137971766
 
 -- its inverse
 abbrev pub inverse_turn_root : ℕ
-inverse_turn_root = 14031687523985394587
+inverse_turn_root = 7760115154989660995
 
 -- √2, which is 2^24 - 2^72
 abbrev pub root_two : ℕ
@@ -53,12 +53,12 @@ inverse_is seed q = is_value minus_one root_two inverse_turn_root (inverted (bas
 -- ways through a circuit are worth as much by one turn as by 64
 value_of_paths : (seed q : ℕ) (c : Circuit) (i j : ℕ) → Same modulus (value_of minus_one (value (bases_of seed q)) (paths q c i j)) (value_of minus_one (value_at turn_root (bases_of seed q)) (paths q c i j))
 unfolding bases_of
-value_of_paths seed q c i j = value_of_eighths minus_one turn_root (bases_of seed q) (paths q c i j) refl (eighths_paths q c i j)
+value_of_paths seed q c i j = value_of_sixteenths minus_one turn_root (bases_of seed q) (paths q c i j) refl (sixteenths_paths q c i j)
 
 -- and so by the inverse bases
 inverse_of_paths : (seed q : ℕ) (c : Circuit) (i j : ℕ) → Same modulus (value_of minus_one (value (inverted (bases_of seed q))) (paths q c i j)) (value_of minus_one (value_at inverse_turn_root (inverted (bases_of seed q))) (paths q c i j))
 unfolding bases_of
-inverse_of_paths seed q c i j = value_of_eighths minus_one inverse_turn_root (inverted (bases_of seed q)) (paths q c i j) refl (eighths_paths q c i j)
+inverse_of_paths seed q c i j = value_of_sixteenths minus_one inverse_turn_root (inverted (bases_of seed q)) (paths q c i j) refl (sixteenths_paths q c i j)
 
 -- weighed sums of ways that are worth the same
 weighed_same : (m n : ℕ) (v v' : Exponent → ℕ) (w : ℕ → ℕ → ℕ) (q : ℕ) (c : Circuit) → ((i j : ℕ) → Same m (value_of n v (paths q c i j)) (value_of n v' (paths q c i j))) →
@@ -67,7 +67,7 @@ weighed_same m n v v' w q c each =
     weighed_scaled m 1 n v v' w (2 ^ q) (paths q c) (paths q c) (λ i j hi hj. each i j ∙ same_by m (value_of n v' (paths q c i j)) (1 * value_of n v' (paths q c i j)) 0 0 (omega arith)) ∙
     same_by m (1 * weighed n v' w (2 ^ q) (paths q c)) (weighed n v' w (2 ^ q) (paths q c)) 0 0 (omega arith)
 
--- the product of both sums, by 64 turns and by one
+-- the product of both sums, by 16 turns and by one
 print_same : (seed q : ℕ) (c : Circuit) →
     fingerprint seed q c ≡ (weighed minus_one (value_at turn_root (bases_of seed q)) (weight seed q) (2 ^ q) (paths q c) * weighed minus_one (value_at inverse_turn_root (inverted (bases_of seed q))) (inverse_weight seed q) (2 ^ q) (paths q c) * half ^ halves c) % modulus
 unfolding fingerprint weighed_values weighed_inverses

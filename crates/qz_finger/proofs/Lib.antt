@@ -2,7 +2,7 @@ mod Modular
 mod WayValues
 mod WeighedSums
 mod Bases
-mod Eighths
+mod Sixteenths
 pub mod Law
 mod Lists
 mod PlaceLemmas

@@ -2,7 +2,7 @@
 use Rattle.std.proofs.Common.{◌≡◌, ℕ, ◌+◌, ◌%◌, ◌^◌, List, [], ◌∷◌, sym, ap, ◌∙◌, add-zero}
 use Rattle.std.specs.Prelude.{slice_index}
 use Rattle.qz_finger.specs.declared.tables.Tables.{Tables}
-use Rattle.qz_finger.specs.Modulo.{parameter_base, inverse_parameter_base, eighth_root, inverse_eighth_root}
+use Rattle.qz_finger.specs.Modulo.{parameter_base, inverse_parameter_base, root_of_unity, inverse_root_of_unity}
 use Rattle.qz_finger.specs.Weights.{entries_on, power_of}
 use Rattle.qz_random.specs.RandomWords.{word}
 use Rattle.qz_finger.specs.Fingerprint.{bases_of, inverted}
@@ -27,18 +27,18 @@ module _ (seed q k : ℕ) (exponents up down : List ℕ) (place : k ≡ entries_
     (first : up ≡ three_of (parameter_base ^ slice_index exponents 0) (parameter_base ^ slice_index exponents 1) (parameter_base ^ slice_index exponents 2))
     (second : down ≡ three_of (inverse_parameter_base ^ slice_index exponents 0) (inverse_parameter_base ^ slice_index exponents 1) (inverse_parameter_base ^ slice_index exponents 2)) where
   -- those of values
-  pub values_made : (weights eighths : List ℕ) → weights ≡ weights_after seed 0 (entries_on q) → eighths ≡ powers_of eighth_root →
-      record { weights = weights; eighths = eighths; up = up; down = down } ≡ value_tables seed q
+  pub values_made : (weights constants : List ℕ) → weights ≡ weights_after seed 0 (entries_on q) → constants ≡ powers_of root_of_unity →
+      record { weights = weights; constants = constants; up = up; down = down } ≡ value_tables seed q
   unfolding value_tables tables_of bases_of
-  values_made weights eighths weighed rooted =
-      λ d. record { weights = weighed d; eighths = rooted d; up = raised_are seed q k parameter_base exponents up place are first d; down = raised_are seed q k inverse_parameter_base exponents down place are second d }
+  values_made weights constants weighed rooted =
+      λ d. record { weights = weighed d; constants = rooted d; up = raised_are seed q k parameter_base exponents up place are first d; down = raised_are seed q k inverse_parameter_base exponents down place are second d }
 
   -- those of inverse values
-  pub inverses_made : (weights eighths : List ℕ) → weights ≡ weights_after seed (entries_on q) (entries_on q) → eighths ≡ powers_of inverse_eighth_root →
-      record { weights = weights; eighths = eighths; up = down; down = up } ≡ inverse_tables seed q
+  pub inverses_made : (weights constants : List ℕ) → weights ≡ weights_after seed (entries_on q) (entries_on q) → constants ≡ powers_of inverse_root_of_unity →
+      record { weights = weights; constants = constants; up = down; down = up } ≡ inverse_tables seed q
   unfolding inverse_tables tables_of bases_of
-  inverses_made weights eighths weighed rooted =
-      λ d. record { weights = weighed d; eighths = rooted d; up = raised_are seed q k inverse_parameter_base exponents down place are second d; down = raised_are seed q k parameter_base exponents up place are first d }
+  inverses_made weights constants weighed rooted =
+      λ d. record { weights = weighed d; constants = rooted d; up = raised_are seed q k inverse_parameter_base exponents down place are second d; down = raised_are seed q k parameter_base exponents up place are first d }
 
 -- ---- what the tables of a probe are
 

@@ -22,7 +22,7 @@ use Rattle.qz_finger.specs.Stands.{AreValues}
 use Rattle.qz_finger.proofs.Modular.{Same, same_by, same_add, same_mul}
 use Rattle.qz_finger.proofs.WayValues.{IsValue, value_append, value_turned, value_shifted}
 use Rattle.qz_finger.proofs.Bases.{value_at}
-use Rattle.qz_finger.proofs.Eighths.{eighth_angle, eighths_paths, value_eighth, value_of_eighths}
+use Rattle.qz_finger.proofs.Sixteenths.{sixteenth_angle, sixteenths_paths, value_sixteenth, value_of_sixteenths}
 use Rattle.qz_finger.proofs.Powers.{rest_twice}
 use Rattle.qz_finger.proofs.PlaceLemmas.{place_below, place_bit, flipped_place}
 
@@ -95,7 +95,7 @@ target_of q u (Rz t e) = refl
 
 -- ---- one gate more
 
-module _ (r z : ℕ) (b : Bases) (is : IsValue minus_one r (value_at z b)) (root : Same modulus (z ^ 64) b.root) where
+module _ (r z : ℕ) (b : Bases) (is : IsValue minus_one r (value_at z b)) (root : Same modulus (z ^ 16) b.root) where
   -- what the ways through a circuit are worth
   abbrev worth : ℕ → Circuit → ℕ → ℕ → ℕ
   worth q c i j = value_of minus_one (value_at z b) (paths q c i j)
@@ -128,15 +128,15 @@ module _ (r z : ℕ) (b : Bases) (is : IsValue minus_one r (value_at z b)) (root
       let k = place_of q i j in
       let over = flipped_state target i in
       let over_below : over < 2 ^ q = flip_below q target i (gate_is q g acts).within row in
-      let worths = λ (e : Expr). rest_twice modulus (value b (angle_exponent e)) ∙ value_eighth modulus z b (angle_exponent e) root (eighth_angle e) in
+      let worths = λ (e : Expr). rest_twice modulus (value b (angle_exponent e)) ∙ value_sixteenth modulus z b (angle_exponent e) root (sixteenth_angle e) in
       let here = value_of minus_one (value b) (paths q c i j) in
       let across = value_of minus_one (value b) (paths q c over j) in
-      let here_same = rest_twice modulus here ∙ value_of_eighths minus_one z b (paths q c i j) root (eighths_paths q c i j) in
-      let across_same = rest_twice modulus across ∙ value_of_eighths minus_one z b (paths q c over j) root (eighths_paths q c over j) in
+      let here_same = rest_twice modulus here ∙ value_of_sixteenths minus_one z b (paths q c i j) root (sixteenths_paths q c i j) in
+      let across_same = rest_twice modulus across ∙ value_of_sixteenths minus_one z b (paths q c over j) root (sixteenths_paths q c over j) in
       after k (place_below q i j row column) ∙
       (λ d. acted action (has_bit (control_of q u g d) k) (has_bit (target_of q u g d) k) (slice_index old k) (slice_index old (flipped_state (target_of q u g d) k)) % modulus) ∙
       (λ d. acted action (place_bit q control i j column d) (place_bit q target i j column d) (values i j row column d) (slice_index old (flipped_place q target i j column d)) % modulus) ∙
       (λ d. acted action (has_bit control i) (has_bit target i) (here % modulus) (values over j over_below column d) % modulus) ∙
       acted_same q u w g (has_bit control i) (has_bit target i) (here % modulus) (across % modulus) (worth q c i j) (worth q c over j) worths here_same across_same ∙
       sym (worth_more q c g i j acts row) ∙
-      sym (value_of_eighths minus_one z b (paths q (c ++ g ∷ []) i j) root (eighths_paths q (c ++ g ∷ []) i j))
+      sym (value_of_sixteenths minus_one z b (paths q (c ++ g ∷ []) i j) root (sixteenths_paths q (c ++ g ∷ []) i j))

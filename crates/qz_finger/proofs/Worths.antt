@@ -5,7 +5,7 @@ use Rattle.std.proofs.Math.Nat.{pow-suc, pow-zero}
 use Rattle.std.proofs.lemmas.Nat.{mul-mod}
 use Rattle.std.proofs.lemmas.List.FromFn.{get_or-map-range_with_len}
 use Rattle.qz_circ.specs.declared.circuit.Expr.TheVariants.{Const, Plus, Minus, Sum}
-use Rattle.qz_circ.specs.Exponent.{angle_exponent}
+use Rattle.qz_circ.specs.Exponent.{angle_exponent, constant_turn}
 use Rattle.qz_finger.specs.Modulo.{modulus}
 use Rattle.qz_finger.specs.Fingerprint.{Bases, value}
 use Rattle.qz_finger.specs.Tables.{powers_of, three_of}
@@ -47,12 +47,12 @@ only_third : (r a b c : ℕ) → r ^ 0 * a ^ 0 * b ^ 0 * c ^ 1 ≡ c
 only_third r a b c = (λ d. pow-zero r d * pow-zero a d * pow-zero b d * pow_one c d) ∙ fourth_alone c
 
 -- a constant
-pub worth_const : (b : Bases) (t : ℕ) → slice_index (powers_of b.root) (t % 8) ≡ value b (angle_exponent (Const t)) % modulus
+pub worth_const : (b : Bases) (t : ℕ) → slice_index (powers_of b.root) (t % 32) ≡ value b (angle_exponent (Const t)) % modulus
 unfolding powers_of
 worth_const b t =
-    let turns : t % 8 ≡ 64 * t % 512 / 64 = omega arith in
-    get_or-map-range_with_len (λ k. b.root ^ k % modulus) 0 8 (t % 8) (t % 8) 0 (omega arith) (omega arith) ∙
-    ap (λ k. b.root ^ k % modulus) turns ∙ ap (λ x. x % modulus) (sym (alone (b.root ^ (64 * t % 512 / 64)) b.g0 b.g1 b.g2))
+    let turns : t % 32 ≡ constant_turn t / 16 = omega arith in
+    get_or-map-range_with_len (λ k. b.root ^ k % modulus) 0 32 (t % 32) (t % 32) 0 (omega arith) (omega arith) ∙
+    ap (λ k. b.root ^ k % modulus) turns ∙ ap (λ x. x % modulus) (sym (alone (b.root ^ (constant_turn t / 16)) b.g0 b.g1 b.g2))
 
 -- a parameter
 pub worth_plus : (b : Bases) (i : ℕ) → i < 3 → slice_index (three_of b.g0 b.g1 b.g2) i ≡ value b (angle_exponent (Plus i)) % modulus

@@ -3,7 +3,7 @@ use Rattle.std.specs.Prelude.{ℕ, ◌+◌, ◌*◌, ◌/◌, ◌%◌, ◌^◌, 
 use Rattle.qz_circ.specs.Circuit.{Circuit}
 use Rattle.qz_circ.specs.Exponent.{Exponent}
 use Rattle.qz_circ.specs.Paths.{Path, Ways, paths, halves}
-use Rattle.qz_finger.specs.Modulo.{modulus, minus_one, half, parameter_base, inverse_parameter_base, eighth_root, inverse_eighth_root, residue, raise, sum_below}
+use Rattle.qz_finger.specs.Modulo.{modulus, minus_one, half, parameter_base, inverse_parameter_base, root_of_unity, inverse_root_of_unity, residue, raise, sum_below}
 use Rattle.qz_finger.specs.Weights.{weight, inverse_weight, power_of}
 
 -- what a contract sees of a probe: the seed of its random numbers, and the number of qubits
@@ -11,7 +11,7 @@ pub record ProbeParts : Type 0 where
   pub seed : ℕ
   pub q : ℕ
 
--- what ω, which is 64 turns, and the parameters stand for, each with its inverse
+-- what 16 turns, which are π/16, and the parameters stand for, each with its inverse
 pub record Bases : Type 0 where
   pub root : ℕ
   pub inverse_root : ℕ
@@ -26,11 +26,11 @@ pub record Bases : Type 0 where
 abbrev pub inverted : Bases → Bases
 inverted b = record { root = b.inverse_root; inverse_root = b.root; g0 = b.h0; h0 = b.g0; g1 = b.h1; h1 = b.g1; g2 = b.h2; h2 = b.g2 }
 
--- ω stands for 2^24, and each parameter for its power of 7
+-- 16 turns stand for 2^6, and each parameter for its power of 7
 unfoldable pub bases_of : ℕ → ℕ → Bases
 bases_of seed q = record {
-  root = eighth_root;
-  inverse_root = inverse_eighth_root;
+  root = root_of_unity;
+  inverse_root = inverse_root_of_unity;
   g0 = parameter_base ^ power_of seed q 0;
   h0 = inverse_parameter_base ^ power_of seed q 0;
   g1 = parameter_base ^ power_of seed q 1;
@@ -39,9 +39,9 @@ bases_of seed q = record {
   h2 = inverse_parameter_base ^ power_of seed q 2;
 }
 
--- the value of a monomial whose turn is a multiple of 64, as in all circuits of rules
+-- the value of a monomial whose turn is a multiple of 16, as in all circuits of rules
 abbrev pub value : Bases → Exponent → ℕ
-value b e = b.root ^ (e.turn / 64) * raise b.g0 b.h0 e.x0 * raise b.g1 b.h1 e.x1 * raise b.g2 b.h2 e.x2
+value b e = b.root ^ (e.turn / 16) * raise b.g0 b.h0 e.x0 * raise b.g1 b.h1 e.x1 * raise b.g2 b.h2 e.x2
 
 -- the signed values of the ways, added up, where n stands for -1
 unfoldable pub value_of : ℕ → (Exponent → ℕ) → List Path → ℕ

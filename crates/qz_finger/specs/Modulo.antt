@@ -21,13 +21,13 @@ parameter_base = 7
 abbrev pub inverse_parameter_base : ℕ
 inverse_parameter_base = 2635249152773512046
 
--- an eighth root of unity modulo p, 2^24, which stands for ω = e^(iπ/4): its fourth power 2^96 is -1 modulo p
-abbrev pub eighth_root : ℕ
-eighth_root = 16777216
+-- a 32nd root of unity modulo p, 2^6, which stands for e^(iπ/16): its 16th power 2^96 is -1 modulo p
+abbrev pub root_of_unity : ℕ
+root_of_unity = 64
 
--- its inverse modulo p, which is 2^168
-abbrev pub inverse_eighth_root : ℕ
-inverse_eighth_root = 18446742969902956801
+-- its inverse modulo p, which is 2^186
+abbrev pub inverse_root_of_unity : ℕ
+inverse_root_of_unity = 18158513693329981441
 
 -- the whole number as a natural one, where n stands for -1
 abbrev pub residue : ℕ → ℤ → ℕ

@@ -11,9 +11,9 @@ use Rattle.qz_finger.specs.Fingerprint.{Bases, bases_of, inverted}
 unfoldable pub weights_after : ℕ → ℕ → ℕ → List ℕ
 weights_after seed skip size = map (λ k. if nat_lt k size then word seed (skip + k) % modulus else 0) (range_with_len 0 64)
 
--- the first eight powers, modulo p
+-- the first 32 powers, modulo p
 unfoldable pub powers_of : ℕ → List ℕ
-powers_of root = map (λ k. root ^ k % modulus) (range_with_len 0 8)
+powers_of root = map (λ k. root ^ k % modulus) (range_with_len 0 32)
 
 -- three numbers modulo p
 abbrev pub three_of : ℕ → ℕ → ℕ → List ℕ
@@ -21,7 +21,7 @@ three_of a b c = a % modulus ∷ b % modulus ∷ c % modulus ∷ []
 
 -- the tables of these weights and bases
 unfoldable pub tables_of : List ℕ → Bases → Tables
-tables_of weights b = record { weights = weights; eighths = powers_of b.root; up = three_of b.g0 b.g1 b.g2; down = three_of b.h0 b.h1 b.h2 }
+tables_of weights b = record { weights = weights; constants = powers_of b.root; up = three_of b.g0 b.g1 b.g2; down = three_of b.h0 b.h1 b.h2 }
 
 -- those of values
 unfoldable pub value_tables : ℕ → ℕ → Tables

@@ -17,11 +17,11 @@ use qz_circ::{Op, entries_on};
 use qz_random::generator;
 use std::marker::Model;
 
-// An eighth root of unity modulo p, 2^24, which stands for ω = e^(iπ/4).
-const EIGHTH_ROOT: u64 = 16777216;
+// A 32nd root of unity modulo p, 2^6, which stands for e^(iπ/16).
+const ROOT_OF_UNITY: u64 = 64;
 
 // Its inverse modulo p.
-const INVERSE_EIGHTH_ROOT: u64 = 18446742969902956801;
+const INVERSE_ROOT_OF_UNITY: u64 = 18158513693329981441;
 
 // The base whose powers stand for the parameters.
 const PARAMETER_BASE: u64 = 7;
@@ -72,13 +72,13 @@ impl Probe {
             q,
             values: Tables {
                 weights: value_weights,
-                eighths: powers(EIGHTH_ROOT),
+                constants: powers(ROOT_OF_UNITY),
                 up,
                 down,
             },
             inverses: Tables {
                 weights: inverse_weights,
-                eighths: powers(INVERSE_EIGHTH_ROOT),
+                constants: powers(INVERSE_ROOT_OF_UNITY),
                 up: down,
                 down: up,
             },

@@ -14,18 +14,18 @@ use qz_circ::Expr;
 #[derive(Clone, Copy)]
 pub(crate) struct Tables {
     pub(crate) weights: [u64; 64],
-    pub(crate) eighths: [u64; 8],
+    pub(crate) constants: [u64; 32],
     pub(crate) up: [u64; 3],
     pub(crate) down: [u64; 3],
 }
 
-// The first eight powers.
-pub(crate) fn powers(base: u64) -> [u64; 8]
+// The first 32 powers.
+pub(crate) fn powers(base: u64) -> [u64; 32]
     ensures { result ≡ powers_of base }
 {
-    let mut powers = [0; 8];
+    let mut powers = [0; 32];
     let mut power = 1;
-    for k in 0..8 {
+    for k in 0..32 {
         powers[k] = power;
         power = multiply(power, base);
     }
@@ -64,7 +64,7 @@ pub(crate) fn value_of_angle(tables: &Tables, angle: Expr) -> u64
     ensures { (b : Bases) → tables.now ≡ tables_of tables.now.weights b → result ≡ value b (angle_exponent angle) % modulus }
 {
     match angle {
-        Expr::Const(t) => tables.eighths[(t % 8) as usize],
+        Expr::Const(t) => tables.constants[(t % 32) as usize],
         Expr::Plus(i) => tables.up[i as usize],
         Expr::Minus(i) => tables.down[i as usize],
         Expr::Sum(i, j) => multiply(tables.up[i as usize], tables.up[j as usize]),

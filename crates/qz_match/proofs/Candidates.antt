@@ -1,5 +1,5 @@
 -- The walk finds the only positions from a first one on at which a left side may stand.
-use Rattle.std.proofs.Common.{◌≡◌, ◌≢◌, ℕ, ◌+◌, ◌*◌, ◌%◌, ◌<◌, ◌≤◌, ◌==◌, ◌||◌, Bool, true, false, List, [], ◌∷◌, length, get_or, take, Some, None, refl, sym, ap, ◌∙◌, subst, arith, ◌⊎◌, inl, inr}
+use Rattle.std.proofs.Common.{◌≡◌, ◌≢◌, ℕ, ◌+◌, ◌<◌, ◌≤◌, ◌==◌, ◌||◌, Bool, true, false, List, [], ◌∷◌, length, get_or, take, Some, None, refl, sym, ap, ◌∙◌, subst, arith, ◌⊎◌, inl, inr}
 use Rattle.std.specs.Prelude.{slice_set}
 use Rattle.std.specs.List.{AllByRecursion, slice_get}
 use Rattle.std.proofs.lemmas.Bool.{cases_eq, eqb-true, eq-eqb}
@@ -12,6 +12,7 @@ use Rattle.qz_circ.specs.declared.circuit.Op.TheVariants.{H as RuleH, X as RuleX
 use Rattle.qz_circ.specs.declared.circuit.Inst.{Inst}
 use Rattle.qz_circ.specs.declared.circuit.Inst.TheVariants.{H, X, Cx, Rz}
 use Rattle.qz_circ.specs.Circuit.{Circuit, IsOn}
+use Rattle.qz_circ.specs.Exponent.{constant_turn}
 use Rattle.qz_circ.specs.ProgramCircuits.{ProgramCircuit, IsProgramGate}
 use Rattle.qz_circ.specs.Gathering.{qubits_of}
 use Rattle.qz_circ.specs.Instances.{slot}
@@ -38,7 +39,7 @@ alike_of bind (RuleCx a t) (Cx v w) h = refl
 alike_of bind (RuleRz t e) (Rz w k) h = by e h.1
   where
     by : (e : Expr) → value_of_angle bind.params e ≡ Some k → may_have e k ≡ true
-    by (Const i) f = let value : 64 * i % 512 ≡ k = cc in eq-eqb (64 * i % 512) k value
+    by (Const i) f = let value : constant_turn i ≡ k = cc in eq-eqb (constant_turn i) k value
     by (Plus i) f = refl
     by (Minus i) f = refl
     by (Sum i j) f = refl

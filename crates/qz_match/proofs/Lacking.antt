@@ -1,5 +1,5 @@
 -- A left side with a gate that is of none of a program's kinds has no places in it.
-use Rattle.std.proofs.Common.{◌≡◌, ℕ, zero, suc, ◌+◌, ◌*◌, ◌/◌, ◌%◌, ◌<◌, ◌==◌, ◌||◌, Bool, true, false, not, List, [], ◌∷◌, ◌++◌, map, length, slice_index_or, Some, refl, sym, ◌∙◌, arith, ◌⊎◌, inl, inr}
+use Rattle.std.proofs.Common.{◌≡◌, ℕ, zero, suc, ◌+◌, ◌/◌, ◌<◌, ◌==◌, ◌||◌, Bool, true, false, not, List, [], ◌∷◌, ◌++◌, map, length, slice_index_or, Some, refl, sym, ap, ◌∙◌, arith, ◌⊎◌, inl, inr}
 use Rattle.std.specs.List.{AllByRecursion, list_any, flat_map}
 use Rattle.std.proofs.lemmas.Bool.{and_parts, eqb-true}
 use Rattle.std.proofs.lemmas.Bool.Decides.{nat_tests}
@@ -11,6 +11,7 @@ use Rattle.qz_circ.specs.declared.circuit.Op.TheVariants.{H as RuleH, X as RuleX
 use Rattle.qz_circ.specs.declared.circuit.Inst.{Inst}
 use Rattle.qz_circ.specs.declared.circuit.Inst.TheVariants.{H, X, Cx, Rz}
 use Rattle.qz_circ.specs.Circuit.{Circuit, IsOn, below}
+use Rattle.qz_circ.specs.Exponent.{constant_turn}
 use Rattle.qz_circ.specs.ProgramCircuits.{ProgramCircuit, IsProgramGate}
 use Rattle.qz_circ.specs.Places.{all_places, value_of_angle}
 use Rattle.qz_circ.proofs.TwoPlaces.{flat_map-below}
@@ -45,9 +46,9 @@ either false b h = inr h
 -- a gate of a rule that is of none of the kinds becomes none of the gates that are
 angle_lacked : (kinds : Kinds) (bind : Binding) (e : Expr) (k : ℕ) → kinds.rz ≡ true → slice_index_or kinds.eighths (k / 64) false ≡ true → value_of_angle bind.params e ≡ Some k → is_angle_lacked kinds e ≡ true → ⊥
 angle_lacked kinds bind (Const t) k some shown h lacked =
-    let value : 64 * t % 512 ≡ k = cc in
-    let same : k / 64 ≡ t % 8 = omega (arith, value) in
-    not_both (slice_index_or kinds.eighths (t % 8) false) ((λ i. slice_index_or kinds.eighths (sym same i) false) ∙ shown) lacked
+    let value : constant_turn t ≡ k = cc in
+    let same : k / 64 ≡ constant_turn t / 64 = ap (λ x. x / 64) (sym value) in
+    not_both (slice_index_or kinds.eighths (constant_turn t / 64) false) ((λ i. slice_index_or kinds.eighths (sym same i) false) ∙ shown) lacked
 angle_lacked kinds bind (Plus i) k some shown h lacked = not_both kinds.rz some lacked
 angle_lacked kinds bind (Minus i) k some shown h lacked = not_both kinds.rz some lacked
 angle_lacked kinds bind (Sum i j) k some shown h lacked = not_both kinds.rz some lacked

@@ -1,5 +1,5 @@
 -- Kinds of gates: which of them a program has, and which gates of rules can't be any of its gates.
-use Rattle.std.specs.Prelude.{◌≡◌, ◌&&◌, ◌/◌, ◌%◌, Bool, true, false, not, slice_index_or}
+use Rattle.std.specs.Prelude.{◌≡◌, ◌&&◌, ◌/◌, Bool, true, false, not, slice_index_or}
 use Rattle.std.specs.List.{AllByRecursion}
 use Rattle.qz_circ.specs.declared.circuit.Expr.{Expr}
 use Rattle.qz_circ.specs.declared.circuit.Expr.TheVariants.{Const}
@@ -7,6 +7,7 @@ use Rattle.qz_circ.specs.declared.circuit.Op.{Op}
 use Rattle.qz_circ.specs.declared.circuit.Op.TheVariants.{H, X, Cx, Rz}
 use Rattle.qz_circ.specs.declared.circuit.Inst.{Inst}
 use Rattle.qz_circ.specs.declared.circuit.Inst.TheVariants.{H as ProgramH, X as ProgramX, Cx as ProgramCx, Rz as ProgramRz}
+use Rattle.qz_circ.specs.Exponent.{constant_turn}
 use Rattle.qz_circ.specs.ProgramCircuits.{ProgramCircuit}
 use Rattle.qz_match.specs.declared.kinds.Kinds.{Kinds}
 
@@ -28,7 +29,7 @@ pub record ShowsMore (old new : Kinds) (g : Inst) : Type 0 where
 
 -- no angle of these kinds can be this one of a rule
 abbrev pub is_angle_lacked : Kinds → Expr → Bool
-is_angle_lacked kinds (Const t) = not (slice_index_or kinds.eighths (t % 8) false)
+is_angle_lacked kinds (Const t) = not (slice_index_or kinds.eighths (constant_turn t / 64) false)
 is_angle_lacked kinds e = not kinds.rz
 
 -- no gate of these kinds can be this one of a rule

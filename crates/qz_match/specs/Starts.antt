@@ -1,5 +1,5 @@
 -- The places with a given first position.
-use Rattle.std.specs.Prelude.{◌≡◌, ℕ, suc, ◌-◌, ◌*◌, ◌%◌, ◌==◌, ◌&&◌, Bool, true, false, if◌then◌else◌, List, [], ◌∷◌, map, length, nat_lt, nat_le, Option, Some, None, take}
+use Rattle.std.specs.Prelude.{◌≡◌, ℕ, suc, ◌-◌, ◌==◌, ◌&&◌, Bool, true, false, if◌then◌else◌, List, [], ◌∷◌, map, length, nat_lt, nat_le, Option, Some, None, take}
 use Rattle.std.specs.List.{filter_map}
 use Rattle.qz_circ.specs.declared.binding.Binding.{Binding}
 use Rattle.qz_circ.specs.declared.circuit.Expr.{Expr}
@@ -9,12 +9,13 @@ use Rattle.qz_circ.specs.declared.circuit.Op.TheVariants.{H, X, Cx, Rz}
 use Rattle.qz_circ.specs.declared.circuit.Inst.{Inst}
 use Rattle.qz_circ.specs.declared.circuit.Inst.TheVariants.{H as ProgramH, X as ProgramX, Cx as ProgramCx, Rz as ProgramRz}
 use Rattle.qz_circ.specs.Circuit.{Circuit}
+use Rattle.qz_circ.specs.Exponent.{constant_turn}
 use Rattle.qz_circ.specs.ProgramCircuits.{ProgramCircuit}
 use Rattle.qz_circ.specs.Places.{PlaceParts, place_at, match_at, rising_lists}
 
 -- the angle may have this value: where it is a number, it is this one
 abbrev pub may_have : Expr → ℕ → Bool
-may_have (Const t) k = 64 * t % 512 == k
+may_have (Const t) k = constant_turn t == k
 may_have e k = true
 
 -- the gates are of one kind, and the angle of a rotation may be that of the other

@@ -5,7 +5,7 @@ ghost use Rattle.qz_circ.specs.Instances.{slot};
 ghost use Rattle.qz_circ.specs.Places.{stands_in, bind_where, bind_qubit, bind_qubits, value_of_angle, filled, filled_sum, solved, is_value, bind_angle, binding_with, bind_gate, bind_gates, nothing_bound};
 ghost use Rattle.qz_match.specs.Neighbours.{gate_at};
 
-use qz_circ::{Binding, Expr, Inst, Op};
+use qz_circ::{Binding, Expr, Inst, Op, constant_turn};
 
 // The qubit stands for some other one already.
 fn stands(slots: [Option<u8>; 3], w: u8) -> bool
@@ -76,7 +76,7 @@ fn value_of(slots: [Option<u16>; 3], e: Expr) -> Option<u16>
     ensures { result ≡ value_of_angle slots e }
 {
     match e {
-        Expr::Const(t) => Some((64 * u16::from(t)) % 512),
+        Expr::Const(t) => Some(constant_turn(t)),
         Expr::Plus(i) => slots[i as usize],
         Expr::Minus(i) => Some(opposite(slots[i as usize]?)),
         Expr::Sum(i, j) => Some(sum(slots[i as usize]?, slots[j as usize]?)),

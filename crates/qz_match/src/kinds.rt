@@ -5,7 +5,7 @@ ghost use Rattle.qz_circ.specs.ProgramCircuits.{IsProgramGate};
 ghost use Rattle.qz_match.specs.Kinds.{is_shown, is_lacked, AreShown, ShowsMore};
 ghost use Rattle.qz_circ.specs.ProgramLimits.{most_qubits};
 
-use qz_circ::{Expr, Inst, Op};
+use qz_circ::{Expr, Inst, Op, constant_turn};
 
 /// The kinds of a program's gates; of its rotations also about which angles they have.
 #[derive(Clone, Copy, Debug, PartialEq, Eq)]
@@ -91,7 +91,7 @@ impl Kinds {
             Op::H(_) => !self.h,
             Op::X(_) => !self.x,
             Op::Cx(_, _) => !self.cx,
-            Op::Rz(_, Expr::Const(t)) => !self.eighths[(t % 8) as usize],
+            Op::Rz(_, Expr::Const(t)) => !self.eighths[(constant_turn(t) / 64) as usize],
             Op::Rz(_, Expr::Plus(_) | Expr::Minus(_) | Expr::Sum(_, _)) => !self.rz,
         }
     }

@@ -15,7 +15,7 @@ use crate::gather::gather_at;
 use crate::neighbours::Neighbours;
 use crate::place::Place;
 use crate::walk::Walk;
-use qz_circ::{Expr, Inst, Memory, Op};
+use qz_circ::{Expr, Inst, Memory, Op, constant_turn};
 use std::alloc::Global;
 
 // The angle may have the value k.
@@ -24,7 +24,7 @@ fn may_have(e: Expr, k: u16) -> bool
     ensures { result ≡ may_have e k }
 {
     match e {
-        Expr::Const(t) => 64 * u16::from(t) % 512 == k,
+        Expr::Const(t) => constant_turn(t) == k,
         Expr::Plus(_) | Expr::Minus(_) | Expr::Sum(_, _) => true,
     }
 }

@@ -5,7 +5,7 @@ ghost use Rattle.qz_circ.specs.Exponent.{angle_exponent, unit_at};
 ghost use Rattle.qz_ring.specs.Exponent.{reach_of};
 ghost use Rattle.qz_matrix.specs.AfterGate.{monomial_of};
 
-use qz_circ::Expr;
+use qz_circ::{Expr, constant_turn};
 use qz_ring::Exponent;
 
 // The power of parameter k in parameter i: 1 where they are the same, and else 0.
@@ -32,7 +32,7 @@ pub(crate) fn exponent_of_angle(angle: Expr) -> Exponent
 {
     match angle {
         Expr::Const(t) => Exponent {
-            turn: 64 * (t as u16) % 512,
+            turn: constant_turn(t),
             powers: [0; 3],
         },
         Expr::Plus(i) => Exponent {

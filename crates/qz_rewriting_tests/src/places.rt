@@ -395,12 +395,22 @@ fn parameters_bound(rt: HostRuntime) -> Result<(), Fail> {
     assert!(rt;
         are_places(
             alloc,
-            &[Op::Rz(0, Expr::Const(1)), Op::Rz(0, Expr::Const(7))],
+            &[Op::Rz(0, Expr::Const(4)), Op::Rz(0, Expr::Const(28))],
             &[],
             &[Inst::Rz(0, 64), Inst::Rz(0, 448), Inst::Rz(0, 64)],
             "0 1 | 0 - - | - - -; "
         )?,
         "constants"
+    );
+    assert!(rt;
+        are_places(
+            alloc,
+            &[Op::Rz(0, Expr::Const(1)), Op::Rz(0, Expr::Const(31))],
+            &[],
+            &[Inst::Rz(0, 16), Inst::Rz(0, 496), Inst::Rz(0, 17)],
+            "0 1 | 0 - - | - - -; "
+        )?,
+        "finer constants"
     );
     assert!(rt;
         are_places(

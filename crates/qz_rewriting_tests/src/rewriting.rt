@@ -56,7 +56,7 @@ fn instances_of_each_kind(rt: HostRuntime) -> Result<(), Fail> {
     let turns = placed(
         rt.alloc(),
         &[
-            Op::Rz(2, Expr::Const(7)),
+            Op::Rz(2, Expr::Const(28)),
             Op::Rz(0, Expr::Minus(1)),
             Op::Rz(1, Expr::Plus(0)),
             Op::Rz(0, Expr::Minus(2)),

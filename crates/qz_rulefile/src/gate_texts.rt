@@ -10,7 +10,7 @@ ghost use Rattle.qz_circ.specs.Vectors.{lists_of};
 
 use crate::parts::{one_of, word};
 use crate::rule_text::push_gate;
-use qz_circ::{Bounds, Expr, Memory, Op, op_number, op_of};
+use qz_circ::{Bounds, Expr, Memory, Op, constant_of, op_number, op_of};
 use std::alloc::{AllocError, Global};
 
 /// The texts of the gates within bounds.
@@ -118,7 +118,10 @@ fn seeming_gate(bytes: &[u8]) -> Option<Op> {
             Some(Op::Rz(digit(*t), Expr::Sum(digit(*i), digit(*j))))
         }
         [b'r', _, _, b'p', i, _, _, t, ..] => Some(Op::Rz(digit(*t), Expr::Plus(digit(*i)))),
-        [b'r', _, _, k, _, _, t, ..] => Some(Op::Rz(digit(*t), Expr::Const(digit(*k)))),
+        [b'r', _, _, k, _, _, t, ..] => Some(Op::Rz(
+            digit(*t),
+            Expr::Const(constant_of(digit(*k))),
+        )),
         _ => None,
     }
 }

@@ -7,7 +7,7 @@ ghost use Rattle.qz_circ.specs.Lines.{line};
 ghost use Rattle.qz_circ.specs.RuleText.{expression_text, gate_text, circuit_text, head_text, member_text, class_text, rule_text};
 
 use itoa::Buffer;
-use qz_circ::{Bounds, Classes, Expr, Memory, Op, unrank};
+use qz_circ::{Bounds, Classes, Expr, Memory, Op, multiple_of, unrank};
 use std::alloc::{AllocError, Global};
 
 // Appends some letters and a number.
@@ -33,7 +33,7 @@ fn push_angle(out: &mut Vec<u8>, e: Expr) -> Result<(), AllocError>
     ensures { OnOk result (out.new.items ≡ out.old.items ++ expression_text e) }
 {
     match e {
-        Expr::Const(t) => push_part(out, b"", t as u64),
+        Expr::Const(t) => push_part(out, b"", multiple_of(t) as u64),
         Expr::Plus(i) => push_part(out, b"p", i as u64),
         Expr::Minus(i) => push_part(out, b"-p", i as u64),
         Expr::Sum(i, j) => {

@@ -5,7 +5,7 @@ use Rattle.std.proofs.lemmas.Int.{ints}
 use Rattle.qz_circ.specs.declared.circuit.Expr.{Expr}
 use Rattle.qz_circ.specs.declared.circuit.Expr.TheVariants.{Const, Plus, Minus, Sum}
 use Rattle.qz_circ.specs.Circuit.{AngleHasBelow}
-use Rattle.qz_circ.specs.Exponent.{Exponent, IsExponent, zero_exponent, turn_of, param, plus, minus, angle_exponent, angle_value}
+use Rattle.qz_circ.specs.Exponent.{Exponent, IsExponent, zero_exponent, turn_of, param, plus, minus, constant_turn, angle_exponent, angle_value}
 use Rattle.qz_circ.proofs.Exponents.{exponent_eq}
 
 -- ---- whole numbers of turns
@@ -110,7 +110,7 @@ bind_param p i less = exponent_eq (bind p (param i)) (turn_of (p i)) (to_turn_is
 
 -- the exponent of an angle becomes the angle's value
 pub bind_angle : (p : ℕ → ℕ) (e : Expr) → AngleHasBelow 3 e → bind p (angle_exponent e) ≡ turn_of (angle_value p e)
-bind_angle p (Const t) below = bind_turns p (64 * t) ∙ exponent_eq (turn_of (64 * t)) (turn_of (64 * t % 512)) (omega arith) refl refl refl
+bind_angle p (Const t) below = bind_turns p (16 * t) ∙ exponent_eq (turn_of (16 * t)) (turn_of (constant_turn t)) (omega arith) refl refl refl
 bind_angle p (Plus i) below = bind_param p i below ∙ exponent_eq (turn_of (p i)) (turn_of (p i % 512)) (omega arith) refl refl refl
 bind_angle p (Minus i) below =
     let both : plus (minus zero_exponent (param i)) (param i) ≡ turn_of 0 = exponent_eq (plus (minus zero_exponent (param i)) (param i)) (turn_of 0) (omega arith) (omega (arith, ints)) (omega (arith, ints)) (omega (arith, ints)) in

@@ -4,7 +4,7 @@ ghost use Rattle.qz_circ.specs.declared.circuit.Inst.TheVariants.{Rz};
 ghost use Rattle.qz_circ.specs.Exponent.{angle_value};
 ghost use Rattle.qz_circ.specs.Instances.{qubit_of, param_of, instance_gate, bound_instance, IsBoundBelow, QubitsBound, IsBoundCircuit};
 
-use qz_circ::{Binding, Expr, Inst, Memory, Op};
+use qz_circ::{Binding, Expr, Inst, Memory, Op, constant_turn};
 use std::alloc::{AllocError, Global};
 
 // How many numbers of 256ths of pi a full circle has.
@@ -36,7 +36,7 @@ fn angle_value(bind: &Binding, e: Expr) -> u16
     ensures { result ≡ angle_value (param_of bind.now) e }
 {
     match e {
-        Expr::Const(t) => 64 * u16::from(t) % CIRCLE,
+        Expr::Const(t) => constant_turn(t),
         Expr::Plus(i) => value(bind, i) % CIRCLE,
         Expr::Minus(i) => (CIRCLE - value(bind, i) % CIRCLE) % CIRCLE,
         Expr::Sum(i, j) => (value(bind, i) % CIRCLE + value(bind, j) % CIRCLE) % CIRCLE,

@@ -16,4 +16,4 @@ loop-k-preserved c = record {
 
 pub returns : goal.returns
 unfolding powers_of
-returns c = fill_by_all (λ k. c.args.base ^ k % modulus) c.loop-k.powers 8 0 c.loop-k.invariant.size (λ m h. c.loop-k.invariant.filled m (omega arith))
+returns c = fill_by_all (λ k. c.args.base ^ k % modulus) c.loop-k.powers 32 0 c.loop-k.invariant.size (λ m h. c.loop-k.invariant.filled m (omega arith))

@@ -12,7 +12,7 @@ use Rattle.qz_finger.proofs.tables.value_of_angle.Goals as goal
 pub returns-in-Const : goal.returns-in-Const
 unfolding tables_of
 returns-in-Const c = λ b same.
-    ap (λ (t : Tables). slice_index t.eighths (c.in-Const.t % 8)) same ∙ worth_const b c.in-Const.t ∙ ap (λ (e : Expr). value b (angle_exponent e) % modulus) (sym c.in-Const.is)
+    ap (λ (t : Tables). slice_index t.constants (c.in-Const.t % 32)) same ∙ worth_const b c.in-Const.t ∙ ap (λ (e : Expr). value b (angle_exponent e) % modulus) (sym c.in-Const.is)
 
 pub returns-in-Plus : goal.returns-in-Plus
 unfolding tables_of
