@@ -13,53 +13,54 @@ use Rattle.qz_circ.specs.declared.circuit.Expr.TheVariants.{Const, Plus, Minus, 
 use Rattle.qz_circ.specs.declared.circuit.Op.{Op}
 use Rattle.qz_circ.specs.declared.circuit.Op.TheVariants.{H, X, Cx, Rz}
 use Rattle.qz_circ.specs.Circuit.{Limits, Circuit, gates_of, constant_of, multiple_of, constants, angles, below, between, ActsBelow, AngleHasBelow, HasBelow, IsOn}
-use Rattle.qz_circ.specs.Bounds.{IsLawful}
+use Rattle.qz_circ.specs.Bounds.{IsLawful, is_grain}
 use Rattle.qz_circ.specs.Order.{gate_cmp, gate_key}
-use Rattle.qz_circ.proofs.BoundsLemmas.{in_range}
+use Rattle.qz_circ.proofs.BoundsLemmas.{in_range, for_grains}
 use Rattle.qz_circ.proofs.RisingLists.{Rising, each_of_all, each_weaker, each-append, each-map, each-flat_map, each-filter, each-range}
 
 -- how many angles there are with m parameters
-abbrev pub angle_count : ℕ → ℕ
-angle_count m = 7 + 2 * m + m * (m - 1) / 2
+abbrev pub angle_count : ℕ → ℕ → ℕ
+angle_count m grain = 2 * grain - 1 + 2 * m + m * (m - 1) / 2
 
 -- how many gates there are on q qubits with m parameters
-abbrev pub table_length : ℕ → ℕ → ℕ
-table_length q m = q * (1 + q + angle_count m)
+abbrev pub table_length : ℕ → ℕ → ℕ → ℕ
+table_length q m grain = q * (1 + q + angle_count m grain)
 
 -- the angle with this number
-abbrev pub angle_at : ℕ → ℕ → Expr
-angle_at m k =
-    cond (ltb k 7) (Const (constant_of (k + 1)))
-    (cond (ltb (k - 7) m) (Plus (k - 7))
-    (cond (ltb (k - 7) (2 * m)) (Minus (k - 7 - m))
-    (cond (eqb (k - 7 - 2 * m) 0) (Sum 0 1)
-    (cond (eqb (k - 7 - 2 * m) 1) (Sum 0 2) (Sum 1 2)))))
+abbrev pub angle_at : ℕ → ℕ → ℕ → Expr
+angle_at m grain k =
+    let others = k - (2 * grain - 1) in
+    cond (ltb k (2 * grain - 1)) (Const (constant_of grain (k + 1)))
+    (cond (ltb others m) (Plus others)
+    (cond (ltb others (2 * m)) (Minus (others - m))
+    (cond (eqb (others - 2 * m) 0) (Sum 0 1)
+    (cond (eqb (others - 2 * m) 1) (Sum 0 2) (Sum 1 2)))))
 
 -- the number of an angle, if it is one of those with m parameters
-abbrev pub angle_number : ℕ → Expr → ℕ
-angle_number m (Const t) = multiple_of t - 1
-angle_number m (Plus i) = 7 + i
-angle_number m (Minus i) = 7 + m + i
-angle_number m (Sum i j) = 6 + 2 * m + i + j
+abbrev pub angle_number : ℕ → ℕ → Expr → ℕ
+angle_number m grain (Const t) = multiple_of grain t - 1
+angle_number m grain (Plus i) = 2 * grain - 1 + i
+angle_number m grain (Minus i) = 2 * grain - 1 + m + i
+angle_number m grain (Sum i j) = 2 * grain - 2 + 2 * m + i + j
 
 -- the number with place t among all but c
 abbrev pub other_at : ℕ → ℕ → ℕ
 other_at c t = cond (ltb t c) t (t + 1)
 
 -- the gate with this number
-abbrev pub gate_at : ℕ → ℕ → ℕ → Op
-gate_at q m k =
+abbrev pub gate_at : ℕ → ℕ → ℕ → ℕ → Op
+gate_at q m grain k =
     cond (ltb k q) (H k)
     (cond (ltb k (2 * q)) (X (k - q))
     (cond (ltb k (q + q * q)) (Cx ((k - 2 * q) / (q - 1)) (other_at ((k - 2 * q) / (q - 1)) ((k - 2 * q) % (q - 1))))
-    (Rz ((k - (q + q * q)) / angle_count m) (angle_at m ((k - (q + q * q)) % angle_count m)))))
+    (Rz ((k - (q + q * q)) / angle_count m grain) (angle_at m grain ((k - (q + q * q)) % angle_count m grain)))))
 
 -- the number of a gate, if it is one of those on q qubits with m parameters
-abbrev pub gate_number : ℕ → ℕ → Op → ℕ
-gate_number q m (H t) = t
-gate_number q m (X t) = q + t
-gate_number q m (Cx c t) = 2 * q + c * (q - 1) + cond (ltb c t) (t - 1) t
-gate_number q m (Rz t e) = q + q * q + t * angle_count m + angle_number m e
+abbrev pub gate_number : ℕ → ℕ → ℕ → Op → ℕ
+gate_number q m grain (H t) = t
+gate_number q m grain (X t) = q + t
+gate_number q m grain (Cx c t) = 2 * q + c * (q - 1) + cond (ltb c t) (t - 1) t
+gate_number q m grain (Rz t e) = q + q * q + t * angle_count m grain + angle_number m grain e
 
 -- each gate is before the next
 abbrev pub adjacent : List Op → Bool
@@ -68,44 +69,103 @@ adjacent (f ∷ []) = true
 adjacent (f ∷ g ∷ gs) = is_lt (gate_cmp f g) && adjacent (g ∷ gs)
 
 -- the angles with m parameters, by their numbers
-pub record AngleTable (m : ℕ) : Type 0 where
-  pub count : length (angles m) ≡ angle_count m
-  angles_are : angles m ≡ map (angle_at m) (below (angle_count m))
-  numbers_are : map (angle_number m) (angles m) ≡ below (angle_count m)
+pub record AngleTable (m grain : ℕ) : Type 0 where
+  pub count : length (angles m grain) ≡ angle_count m grain
+  angles_are : angles m grain ≡ map (angle_at m grain) (below (angle_count m grain))
+  numbers_are : map (angle_number m grain) (angles m grain) ≡ below (angle_count m grain)
 
--- the list of angles, computed for each number of parameters
-pub angle_table : (m : ℕ) → m ≤ 3 → AngleTable m
+-- the list of angles, computed for each number of parameters and each grain
+angles_4 : (m : ℕ) → m ≤ 3 → AngleTable m 4
 unfolding angles
-angle_table zero h = record { count = refl; angles_are = refl; numbers_are = refl }
-angle_table (suc zero) h = record { count = refl; angles_are = refl; numbers_are = refl }
-angle_table (suc (suc zero)) h = record { count = refl; angles_are = refl; numbers_are = refl }
-angle_table (suc (suc (suc zero))) h = record { count = refl; angles_are = refl; numbers_are = refl }
-angle_table (suc (suc (suc (suc m)))) h = absurd (omega arith)
+angles_4 zero h = record { count = refl; angles_are = refl; numbers_are = refl }
+angles_4 (suc zero) h = record { count = refl; angles_are = refl; numbers_are = refl }
+angles_4 (suc (suc zero)) h = record { count = refl; angles_are = refl; numbers_are = refl }
+angles_4 (suc (suc (suc zero))) h = record { count = refl; angles_are = refl; numbers_are = refl }
+angles_4 (suc (suc (suc (suc m)))) h = absurd (omega arith)
+
+angles_8 : (m : ℕ) → m ≤ 3 → AngleTable m 8
+unfolding angles
+angles_8 zero h = record { count = refl; angles_are = refl; numbers_are = refl }
+angles_8 (suc zero) h = record { count = refl; angles_are = refl; numbers_are = refl }
+angles_8 (suc (suc zero)) h = record { count = refl; angles_are = refl; numbers_are = refl }
+angles_8 (suc (suc (suc zero))) h = record { count = refl; angles_are = refl; numbers_are = refl }
+angles_8 (suc (suc (suc (suc m)))) h = absurd (omega arith)
+
+angles_16 : (m : ℕ) → m ≤ 3 → AngleTable m 16
+unfolding angles
+angles_16 zero h = record { count = refl; angles_are = refl; numbers_are = refl }
+angles_16 (suc zero) h = record { count = refl; angles_are = refl; numbers_are = refl }
+angles_16 (suc (suc zero)) h = record { count = refl; angles_are = refl; numbers_are = refl }
+angles_16 (suc (suc (suc zero))) h = record { count = refl; angles_are = refl; numbers_are = refl }
+angles_16 (suc (suc (suc (suc m)))) h = absurd (omega arith)
+
+pub angle_table : (m grain : ℕ) → m ≤ 3 → is_grain grain ≡ true → AngleTable m grain
+angle_table m grain h l = for_grains (AngleTable m) grain l (angles_4 m h) (angles_8 m h) (angles_16 m h)
 
 -- the gates on q qubits with m parameters, by their numbers, rising
-pub record GateTable (gates : List Op) (q m : ℕ) : Type 0 where
-  gates_are : gates ≡ map (gate_at q m) (below (table_length q m))
-  numbers_are : map (gate_number q m) gates ≡ below (table_length q m)
+pub record GateTable (gates : List Op) (q m grain : ℕ) : Type 0 where
+  gates_are : gates ≡ map (gate_at q m grain) (below (table_length q m grain))
+  numbers_are : map (gate_number q m grain) gates ≡ below (table_length q m grain)
   pub rising : adjacent gates ≡ true
 
--- the list of gates, computed for each number of qubits and parameters
-gate_table : (n q m : ℕ) → 0 < q → q ≤ 3 → m ≤ 3 → GateTable (gates_of (record { n = n; q = q; m = m })) q m
+-- the list of gates, computed for each number of qubits and parameters and each grain
+gates_4 : (n q m : ℕ) → 0 < q → q ≤ 3 → m ≤ 3 → GateTable (gates_of (record { n = n; q = q; m = m; grain = 4 })) q m 4
 unfolding gates_of angles gate_cmp
-gate_table n (suc zero) zero p h k = record { gates_are = refl; numbers_are = refl; rising = refl }
-gate_table n (suc zero) (suc zero) p h k = record { gates_are = refl; numbers_are = refl; rising = refl }
-gate_table n (suc zero) (suc (suc zero)) p h k = record { gates_are = refl; numbers_are = refl; rising = refl }
-gate_table n (suc zero) (suc (suc (suc zero))) p h k = record { gates_are = refl; numbers_are = refl; rising = refl }
-gate_table n (suc (suc zero)) zero p h k = record { gates_are = refl; numbers_are = refl; rising = refl }
-gate_table n (suc (suc zero)) (suc zero) p h k = record { gates_are = refl; numbers_are = refl; rising = refl }
-gate_table n (suc (suc zero)) (suc (suc zero)) p h k = record { gates_are = refl; numbers_are = refl; rising = refl }
-gate_table n (suc (suc zero)) (suc (suc (suc zero))) p h k = record { gates_are = refl; numbers_are = refl; rising = refl }
-gate_table n (suc (suc (suc zero))) zero p h k = record { gates_are = refl; numbers_are = refl; rising = refl }
-gate_table n (suc (suc (suc zero))) (suc zero) p h k = record { gates_are = refl; numbers_are = refl; rising = refl }
-gate_table n (suc (suc (suc zero))) (suc (suc zero)) p h k = record { gates_are = refl; numbers_are = refl; rising = refl }
-gate_table n (suc (suc (suc zero))) (suc (suc (suc zero))) p h k = record { gates_are = refl; numbers_are = refl; rising = refl }
-gate_table n zero m p h k = absurd (omega arith)
-gate_table n (suc (suc (suc (suc q)))) m p h k = absurd (omega arith)
-gate_table n q (suc (suc (suc (suc m)))) p h k = absurd (omega arith)
+gates_4 n (suc zero) zero p h k = record { gates_are = refl; numbers_are = refl; rising = refl }
+gates_4 n (suc zero) (suc zero) p h k = record { gates_are = refl; numbers_are = refl; rising = refl }
+gates_4 n (suc zero) (suc (suc zero)) p h k = record { gates_are = refl; numbers_are = refl; rising = refl }
+gates_4 n (suc zero) (suc (suc (suc zero))) p h k = record { gates_are = refl; numbers_are = refl; rising = refl }
+gates_4 n (suc (suc zero)) zero p h k = record { gates_are = refl; numbers_are = refl; rising = refl }
+gates_4 n (suc (suc zero)) (suc zero) p h k = record { gates_are = refl; numbers_are = refl; rising = refl }
+gates_4 n (suc (suc zero)) (suc (suc zero)) p h k = record { gates_are = refl; numbers_are = refl; rising = refl }
+gates_4 n (suc (suc zero)) (suc (suc (suc zero))) p h k = record { gates_are = refl; numbers_are = refl; rising = refl }
+gates_4 n (suc (suc (suc zero))) zero p h k = record { gates_are = refl; numbers_are = refl; rising = refl }
+gates_4 n (suc (suc (suc zero))) (suc zero) p h k = record { gates_are = refl; numbers_are = refl; rising = refl }
+gates_4 n (suc (suc (suc zero))) (suc (suc zero)) p h k = record { gates_are = refl; numbers_are = refl; rising = refl }
+gates_4 n (suc (suc (suc zero))) (suc (suc (suc zero))) p h k = record { gates_are = refl; numbers_are = refl; rising = refl }
+gates_4 n zero m p h k = absurd (omega arith)
+gates_4 n (suc (suc (suc (suc q)))) m p h k = absurd (omega arith)
+gates_4 n q (suc (suc (suc (suc m)))) p h k = absurd (omega arith)
+
+gates_8 : (n q m : ℕ) → 0 < q → q ≤ 3 → m ≤ 3 → GateTable (gates_of (record { n = n; q = q; m = m; grain = 8 })) q m 8
+unfolding gates_of angles gate_cmp
+gates_8 n (suc zero) zero p h k = record { gates_are = refl; numbers_are = refl; rising = refl }
+gates_8 n (suc zero) (suc zero) p h k = record { gates_are = refl; numbers_are = refl; rising = refl }
+gates_8 n (suc zero) (suc (suc zero)) p h k = record { gates_are = refl; numbers_are = refl; rising = refl }
+gates_8 n (suc zero) (suc (suc (suc zero))) p h k = record { gates_are = refl; numbers_are = refl; rising = refl }
+gates_8 n (suc (suc zero)) zero p h k = record { gates_are = refl; numbers_are = refl; rising = refl }
+gates_8 n (suc (suc zero)) (suc zero) p h k = record { gates_are = refl; numbers_are = refl; rising = refl }
+gates_8 n (suc (suc zero)) (suc (suc zero)) p h k = record { gates_are = refl; numbers_are = refl; rising = refl }
+gates_8 n (suc (suc zero)) (suc (suc (suc zero))) p h k = record { gates_are = refl; numbers_are = refl; rising = refl }
+gates_8 n (suc (suc (suc zero))) zero p h k = record { gates_are = refl; numbers_are = refl; rising = refl }
+gates_8 n (suc (suc (suc zero))) (suc zero) p h k = record { gates_are = refl; numbers_are = refl; rising = refl }
+gates_8 n (suc (suc (suc zero))) (suc (suc zero)) p h k = record { gates_are = refl; numbers_are = refl; rising = refl }
+gates_8 n (suc (suc (suc zero))) (suc (suc (suc zero))) p h k = record { gates_are = refl; numbers_are = refl; rising = refl }
+gates_8 n zero m p h k = absurd (omega arith)
+gates_8 n (suc (suc (suc (suc q)))) m p h k = absurd (omega arith)
+gates_8 n q (suc (suc (suc (suc m)))) p h k = absurd (omega arith)
+
+gates_16 : (n q m : ℕ) → 0 < q → q ≤ 3 → m ≤ 3 → GateTable (gates_of (record { n = n; q = q; m = m; grain = 16 })) q m 16
+unfolding gates_of angles gate_cmp
+gates_16 n (suc zero) zero p h k = record { gates_are = refl; numbers_are = refl; rising = refl }
+gates_16 n (suc zero) (suc zero) p h k = record { gates_are = refl; numbers_are = refl; rising = refl }
+gates_16 n (suc zero) (suc (suc zero)) p h k = record { gates_are = refl; numbers_are = refl; rising = refl }
+gates_16 n (suc zero) (suc (suc (suc zero))) p h k = record { gates_are = refl; numbers_are = refl; rising = refl }
+gates_16 n (suc (suc zero)) zero p h k = record { gates_are = refl; numbers_are = refl; rising = refl }
+gates_16 n (suc (suc zero)) (suc zero) p h k = record { gates_are = refl; numbers_are = refl; rising = refl }
+gates_16 n (suc (suc zero)) (suc (suc zero)) p h k = record { gates_are = refl; numbers_are = refl; rising = refl }
+gates_16 n (suc (suc zero)) (suc (suc (suc zero))) p h k = record { gates_are = refl; numbers_are = refl; rising = refl }
+gates_16 n (suc (suc (suc zero))) zero p h k = record { gates_are = refl; numbers_are = refl; rising = refl }
+gates_16 n (suc (suc (suc zero))) (suc zero) p h k = record { gates_are = refl; numbers_are = refl; rising = refl }
+gates_16 n (suc (suc (suc zero))) (suc (suc zero)) p h k = record { gates_are = refl; numbers_are = refl; rising = refl }
+gates_16 n (suc (suc (suc zero))) (suc (suc (suc zero))) p h k = record { gates_are = refl; numbers_are = refl; rising = refl }
+gates_16 n zero m p h k = absurd (omega arith)
+gates_16 n (suc (suc (suc (suc q)))) m p h k = absurd (omega arith)
+gates_16 n q (suc (suc (suc (suc m)))) p h k = absurd (omega arith)
+
+gate_table : (n q m grain : ℕ) → 0 < q → q ≤ 3 → m ≤ 3 → is_grain grain ≡ true → GateTable (gates_of (record { n = n; q = q; m = m; grain = grain })) q m grain
+gate_table n q m grain p h k l =
+    for_grains (λ g. GateTable (gates_of (record { n = n; q = q; m = m; grain = g })) q m g) grain l (gates_4 n q m p h k) (gates_8 n q m p h k) (gates_16 n q m p h k)
 
 -- ---- elements by their places
 
@@ -129,22 +189,22 @@ place_of f xs n k x e h =
     ap (λ o. unwrap_or o 0) (here ∙ there)
 
 -- the angle at a place
-pub angle_listed : (m k : ℕ) → m ≤ 3 → k < length (angles m) → slice_get (angles m) k ≡ Some (angle_at m k)
-angle_listed m k h l =
-    let table = angle_table m h in
-    listed_at (angle_at m) (angles m) (angle_count m) k table.angles_are (omega (arith, table.count))
+pub angle_listed : (m grain k : ℕ) → m ≤ 3 → is_grain grain ≡ true → k < length (angles m grain) → slice_get (angles m grain) k ≡ Some (angle_at m grain k)
+angle_listed m grain k h l less =
+    let table = angle_table m grain h l in
+    listed_at (angle_at m grain) (angles m grain) (angle_count m grain) k table.angles_are (omega (arith, table.count))
 
 -- an angle's place
-pub angle_place : (m k : ℕ) (e : Expr) → m ≤ 3 → slice_get (angles m) k ≡ Some e → angle_number m e ≡ k
-angle_place m k e h l = place_of (angle_number m) (angles m) (angle_count m) k e (angle_table m h).numbers_are l
+pub angle_place : (m grain k : ℕ) (e : Expr) → m ≤ 3 → is_grain grain ≡ true → slice_get (angles m grain) k ≡ Some e → angle_number m grain e ≡ k
+angle_place m grain k e h l listed = place_of (angle_number m grain) (angles m grain) (angle_count m grain) k e (angle_table m grain h l).numbers_are listed
 
 -- the gate at a place
-gate_listed : (n q m k : ℕ) → 0 < q → q ≤ 3 → m ≤ 3 → k < table_length q m → slice_get (gates_of (record { n = n; q = q; m = m })) k ≡ Some (gate_at q m k)
-gate_listed n q m k p h j l = listed_at (gate_at q m) (gates_of (record { n = n; q = q; m = m })) (table_length q m) k (gate_table n q m p h j).gates_are l
+gate_listed : (n q m grain k : ℕ) → 0 < q → q ≤ 3 → m ≤ 3 → is_grain grain ≡ true → k < table_length q m grain → slice_get (gates_of (record { n = n; q = q; m = m; grain = grain })) k ≡ Some (gate_at q m grain k)
+gate_listed n q m grain k p h j l less = listed_at (gate_at q m grain) (gates_of (record { n = n; q = q; m = m; grain = grain })) (table_length q m grain) k (gate_table n q m grain p h j l).gates_are less
 
 -- a gate's place
-pub gate_place : (n q m k : ℕ) (g : Op) → 0 < q → q ≤ 3 → m ≤ 3 → slice_get (gates_of (record { n = n; q = q; m = m })) k ≡ Some g → gate_number q m g ≡ k
-gate_place n q m k g p h j l = place_of (gate_number q m) (gates_of (record { n = n; q = q; m = m })) (table_length q m) k g (gate_table n q m p h j).numbers_are l
+pub gate_place : (n q m grain k : ℕ) (g : Op) → 0 < q → q ≤ 3 → m ≤ 3 → is_grain grain ≡ true → slice_get (gates_of (record { n = n; q = q; m = m; grain = grain })) k ≡ Some g → gate_number q m grain g ≡ k
+gate_place n q m grain k g p h j l listed = place_of (gate_number q m grain) (gates_of (record { n = n; q = q; m = m; grain = grain })) (table_length q m grain) k g (gate_table n q m grain p h j l).numbers_are listed
 
 -- ---- the order of gates
 
@@ -180,32 +240,32 @@ rising_from_adjacent (f ∷ g ∷ gs) e =
 pub gates_rising : (b : Limits) → IsLawful b → Rising gate_before (gates_of b)
 gates_rising b h =
     let range = in_range b h in
-    rising_from_adjacent (gates_of b) (gate_table b.n b.q b.m range.some_qubit range.qubits range.params).rising
+    rising_from_adjacent (gates_of b) (gate_table b.n b.q b.m b.grain range.some_qubit range.qubits range.params range.grain).rising
 
 -- ---- what gates within limits are
 
 -- the angles with m parameters have only those
-angles_below : (m : ℕ) → AllByRecursion (AngleHasBelow m) (angles m)
+angles_below : (m grain : ℕ) → AllByRecursion (AngleHasBelow m) (angles m grain)
 unfolding angles
-angles_below m =
-    let consts = each-map (AngleHasBelow m) (λ k. Const (constant_of k)) (range_with_len 1 7) (each_of_all (λ k. AngleHasBelow m (Const (constant_of k))) (λ k. tt) (range_with_len 1 7)) in
+angles_below m grain =
+    let consts = each-map (AngleHasBelow m) (λ k. Const (constant_of grain k)) (range_with_len 1 (2 * grain - 1)) (each_of_all (λ k. AngleHasBelow m (Const (constant_of grain k))) (λ k. tt) (range_with_len 1 (2 * grain - 1))) in
     let pluses = each-map (AngleHasBelow m) Plus (below m) (each_weaker (λ k. (0 ≤ k) × (k < 0 + m)) (λ k. k < m) (λ k h. omega arith) (below m) (each-range 0 m)) in
     let minuses = each-map (AngleHasBelow m) Minus (below m) (each_weaker (λ k. (0 ≤ k) × (k < 0 + m)) (λ k. k < m) (λ k h. omega arith) (below m) (each-range 0 m)) in
     let sums = each-flat_map (AngleHasBelow m) (λ i. map (Sum i) (between i m)) (below m) (each_weaker (λ k. (0 ≤ k) × (k < 0 + m)) (λ i. AllByRecursion (AngleHasBelow m) (map (Sum i) (between i m))) sum_below (below m) (each-range 0 m)) in
-    each-append (AngleHasBelow m) (constants ++ map Plus (below m) ++ map Minus (below m)) (flat_map (λ i. map (Sum i) (between i m)) (below m))
-    (each-append (AngleHasBelow m) (constants ++ map Plus (below m)) (map Minus (below m)) (each-append (AngleHasBelow m) (constants) (map Plus (below m)) consts pluses) minuses) sums
+    each-append (AngleHasBelow m) (constants grain ++ map Plus (below m) ++ map Minus (below m)) (flat_map (λ i. map (Sum i) (between i m)) (below m))
+    (each-append (AngleHasBelow m) (constants grain ++ map Plus (below m)) (map Minus (below m)) (each-append (AngleHasBelow m) (constants grain) (map Plus (below m)) consts pluses) minuses) sums
   where
     sum_below : (i : ℕ) → (0 ≤ i) × (i < 0 + m) → AllByRecursion (AngleHasBelow m) (map (Sum i) (between i m))
     sum_below i h = each-map (AngleHasBelow m) (Sum i) (between i m) (each_weaker (λ j. (i + 1 ≤ j) × (j < i + 1 + (m - (i + 1)))) (λ j. AngleHasBelow m (Sum i j)) (λ j l. (omega arith, omega arith, omega arith)) (between i m) (each-range (i + 1) (m - (i + 1))))
 
 -- what holds of each kind of gate on qubits below q, at an angle with m parameters, holds of each gate within the limits
-pub record OfEachKind (P : Op → Type 0) (q m : ℕ) : Type 0 where
+pub record OfEachKind (P : Op → Type 0) (q m grain : ℕ) : Type 0 where
   pub of_h : (t : ℕ) → t < q → P (H t)
   pub of_x : (t : ℕ) → t < q → P (X t)
   pub of_cx : (c t : ℕ) → c < q → t < q → c ≢ t → P (Cx c t)
-  pub of_rz : (t : ℕ) (e : Expr) → t < q → Contains (angles m) e → P (Rz t e)
+  pub of_rz : (t : ℕ) (e : Expr) → t < q → Contains (angles m grain) e → P (Rz t e)
 
-module _ (P : Op → Type 0) (b : Limits) (each : OfEachKind P b.q b.m) where
+module _ (P : Op → Type 0) (b : Limits) (each : OfEachKind P b.q b.m b.grain) where
   -- the number is in the range of the qubits
   abbrev IsQubit : ℕ → Type 0
   IsQubit k = (0 ≤ k) × (k < 0 + b.q)
@@ -227,11 +287,11 @@ module _ (P : Op → Type 0) (b : Limits) (each : OfEachKind P b.q b.m) where
           (others c) (each-filter IsQubit (λ t. not (eqb t c)) (below b.q) (each-range 0 b.q)))
 
   -- of each rotation
-  of_rotations : AllByRecursion P (flat_map (λ t. map (Rz t) (angles b.m)) (below b.q))
-  of_rotations = each-flat_map P (λ t. map (Rz t) (angles b.m)) (below b.q) (each_weaker IsQubit (λ t. AllByRecursion P (map (Rz t) (angles b.m))) of_rotation (below b.q) (each-range 0 b.q))
+  of_rotations : AllByRecursion P (flat_map (λ t. map (Rz t) (angles b.m b.grain)) (below b.q))
+  of_rotations = each-flat_map P (λ t. map (Rz t) (angles b.m b.grain)) (below b.q) (each_weaker IsQubit (λ t. AllByRecursion P (map (Rz t) (angles b.m b.grain))) of_rotation (below b.q) (each-range 0 b.q))
     where
-      of_rotation : (t : ℕ) → IsQubit t → AllByRecursion P (map (Rz t) (angles b.m))
-      of_rotation t h = each-map P (Rz t) (angles b.m) (each_weaker (Contains (angles b.m)) (λ e. P (Rz t e)) (λ e l. each.of_rz t e (omega (arith, h.1)) l) (angles b.m) (recursion_from_All (Contains (angles b.m)) (angles b.m) (All-contains_itself (angles b.m))))
+      of_rotation : (t : ℕ) → IsQubit t → AllByRecursion P (map (Rz t) (angles b.m b.grain))
+      of_rotation t h = each-map P (Rz t) (angles b.m b.grain) (each_weaker (Contains (angles b.m b.grain)) (λ e. P (Rz t e)) (λ e l. each.of_rz t e (omega (arith, h.1)) l) (angles b.m b.grain) (recursion_from_All (Contains (angles b.m b.grain)) (angles b.m b.grain) (All-contains_itself (angles b.m b.grain))))
 
   -- of each gate
   of_gates : AllByRecursion P (gates_of b)
@@ -240,7 +300,7 @@ module _ (P : Op → Type 0) (b : Limits) (each : OfEachKind P b.q b.m) where
       let hs = each-map P H (below b.q) (each_weaker IsQubit (λ t. P (H t)) (λ t h. each.of_h t (omega (arith, h.1))) (below b.q) (each-range 0 b.q)) in
       let xs = each-map P X (below b.q) (each_weaker IsQubit (λ t. P (X t)) (λ t h. each.of_x t (omega (arith, h.1))) (below b.q) (each-range 0 b.q)) in
       let cxs = flat_map (λ c. map (Cx c) (others c)) (below b.q) in
-      let rzs = flat_map (λ t. map (Rz t) (angles b.m)) (below b.q) in
+      let rzs = flat_map (λ t. map (Rz t) (angles b.m b.grain)) (below b.q) in
       each-append P (map H (below b.q) ++ map X (below b.q) ++ cxs) rzs
       (each-append P (map H (below b.q) ++ map X (below b.q)) cxs (each-append P (map H (below b.q)) (map X (below b.q)) hs xs) of_pairs) of_rotations
 
@@ -258,7 +318,7 @@ gate_below b g h = of_gate (IsWithin b) b record {
   of_h = λ t l. (l, tt);
   of_x = λ t l. (l, tt);
   of_cx = λ c t k l n. ((k, l, n), tt);
-  of_rz = λ t e l k. (l, All-contains (AngleHasBelow b.m) (angles b.m) e (All-from_recursion (AngleHasBelow b.m) (angles b.m) (angles_below b.m)) k);
+  of_rz = λ t e l k. (l, All-contains (AngleHasBelow b.m) (angles b.m b.grain) e (All-from_recursion (AngleHasBelow b.m) (angles b.m b.grain) (angles_below b.m b.grain)) k);
 } g h
 
 -- and so is each gate of a circuit
@@ -266,15 +326,15 @@ pub circuit_below : (b : Limits) (c : Circuit) → AllByRecursion (Contains (gat
 circuit_below b c h = each_weaker (Contains (gates_of b)) (IsWithin b) (gate_below b) c h
 
 -- the angle of a rotation is one of the angles
-abbrev pub HasAngle : ℕ → Op → Type 0
-HasAngle m (H t) = Unit {0}
-HasAngle m (X t) = Unit {0}
-HasAngle m (Cx c t) = Unit {0}
-HasAngle m (Rz t e) = Contains (angles m) e
+abbrev pub HasAngle : ℕ → ℕ → Op → Type 0
+HasAngle m grain (H t) = Unit {0}
+HasAngle m grain (X t) = Unit {0}
+HasAngle m grain (Cx c t) = Unit {0}
+HasAngle m grain (Rz t e) = Contains (angles m grain) e
 
 -- a rotation within limits has one of the angles
-pub has_angle : (b : Limits) (g : Op) → Contains (gates_of b) g → HasAngle b.m g
-has_angle b g h = of_gate (HasAngle b.m) b record {
+pub has_angle : (b : Limits) (g : Op) → Contains (gates_of b) g → HasAngle b.m b.grain g
+has_angle b g h = of_gate (HasAngle b.m b.grain) b record {
   of_h = λ t l. tt;
   of_x = λ t l. tt;
   of_cx = λ c t k l n. tt;
@@ -296,47 +356,47 @@ pub contains_from_listed : {A : Type 0} (xs : List A) (k : ℕ) (x : A) → slic
 contains_from_listed xs k x h = (k, slice_get_within xs k x h, get_or_from_slice_get xs k x x h)
 
 -- the angle of a rotation within the limits has a place
-pub angle_of_gate : (n q m k t : ℕ) (e : Expr) → m ≤ 3 → slice_get (gates_of (record { n = n; q = q; m = m })) k ≡ Some (Rz t e) → slice_get (angles m) (angle_number m e) ≡ Some e
-angle_of_gate n q m k t e h l =
-    let found : Contains (angles m) e = has_angle (record { n = n; q = q; m = m }) (Rz t e) (contains_from_listed (gates_of (record { n = n; q = q; m = m })) k (Rz t e) l) in
-    let listed = listed_from_contains (angles m) e found in
-    ap (slice_get (angles m)) (angle_place m found.0 e h listed) ∙ listed
+pub angle_of_gate : (n q m grain k t : ℕ) (e : Expr) → m ≤ 3 → is_grain grain ≡ true → slice_get (gates_of (record { n = n; q = q; m = m; grain = grain })) k ≡ Some (Rz t e) → slice_get (angles m grain) (angle_number m grain e) ≡ Some e
+angle_of_gate n q m grain k t e h allowed l =
+    let found : Contains (angles m grain) e = has_angle (record { n = n; q = q; m = m; grain = grain }) (Rz t e) (contains_from_listed (gates_of (record { n = n; q = q; m = m; grain = grain })) k (Rz t e) l) in
+    let listed = listed_from_contains (angles m grain) e found in
+    ap (slice_get (angles m grain)) (angle_place m grain found.0 e h allowed listed) ∙ listed
 
 -- ---- the gates of each kind by their numbers
 
-module _ (n q m : ℕ) (p : 0 < q) (h : q ≤ 3) (j : m ≤ 3) where
+module _ (n q m grain : ℕ) (p : 0 < q) (h : q ≤ 3) (j : m ≤ 3) (allowed : is_grain grain ≡ true) where
   -- the length of the list of gates
-  pub gates_have_length : length (gates_of (record { n = n; q = q; m = m })) ≡ table_length q m
-  gates_have_length = ap length (gate_table n q m p h j).gates_are ∙ length-map (below (table_length q m)) (gate_at q m) ∙ length-range_with_len 0 (table_length q m)
+  pub gates_have_length : length (gates_of (record { n = n; q = q; m = m; grain = grain })) ≡ table_length q m grain
+  gates_have_length = ap length (gate_table n q m grain p h j allowed).gates_are ∙ length-map (below (table_length q m grain)) (gate_at q m grain) ∙ length-range_with_len 0 (table_length q m grain)
 
   -- the first q gates are H
-  pub h_at : (k : ℕ) → k < q → slice_get (gates_of (record { n = n; q = q; m = m })) k ≡ Some (H k)
+  pub h_at : (k : ℕ) → k < q → slice_get (gates_of (record { n = n; q = q; m = m; grain = grain })) k ≡ Some (H k)
   h_at k l =
-      let is : gate_at q m k ≡ H k = rw (lt-ltb k q l) refl in
-      gate_listed n q m k p h j (omega arith) ∙ ap Some is
+      let is : gate_at q m grain k ≡ H k = rw (lt-ltb k q l) refl in
+      gate_listed n q m grain k p h j allowed (omega arith) ∙ ap Some is
 
   -- the next q gates are X
-  pub x_at : (k : ℕ) → q ≤ k → k < 2 * q → slice_get (gates_of (record { n = n; q = q; m = m })) k ≡ Some (X (k - q))
+  pub x_at : (k : ℕ) → q ≤ k → k < 2 * q → slice_get (gates_of (record { n = n; q = q; m = m; grain = grain })) k ≡ Some (X (k - q))
   x_at k l u =
-      let is : gate_at q m k ≡ X (k - q) = rw (le-ltb k q l, lt-ltb k (2 * q) u) refl in
-      gate_listed n q m k p h j (omega (arith, le-mul_of_pos_right q p)) ∙ ap Some is
+      let is : gate_at q m grain k ≡ X (k - q) = rw (le-ltb k q l, lt-ltb k (2 * q) u) refl in
+      gate_listed n q m grain k p h j allowed (omega (arith, le-mul_of_pos_right q p)) ∙ ap Some is
 
   -- then come the gates of two qubits, by control and then target
-  pub cx_at : (k : ℕ) → 2 * q + k < q + q * q → slice_get (gates_of (record { n = n; q = q; m = m })) (2 * q + k) ≡ Some (Cx (k / (q - 1)) (other_at (k / (q - 1)) (k % (q - 1))))
+  pub cx_at : (k : ℕ) → 2 * q + k < q + q * q → slice_get (gates_of (record { n = n; q = q; m = m; grain = grain })) (2 * q + k) ≡ Some (Cx (k / (q - 1)) (other_at (k / (q - 1)) (k % (q - 1))))
   cx_at k u =
       let back : 2 * q + k - 2 * q ≡ k = omega arith in
       let not_x : 2 * q ≤ 2 * q + k = omega arith in
       let not_h : q ≤ 2 * q + k = omega arith in
-      let is : gate_at q m (2 * q + k) ≡ Cx (k / (q - 1)) (other_at (k / (q - 1)) (k % (q - 1))) = rw (le-ltb (2 * q + k) q not_h, le-ltb (2 * q + k) (2 * q) not_x, lt-ltb (2 * q + k) (q + q * q) u, back) refl in
-      gate_listed n q m (2 * q + k) p h j (omega (arith, u)) ∙ ap Some is
+      let is : gate_at q m grain (2 * q + k) ≡ Cx (k / (q - 1)) (other_at (k / (q - 1)) (k % (q - 1))) = rw (le-ltb (2 * q + k) q not_h, le-ltb (2 * q + k) (2 * q) not_x, lt-ltb (2 * q + k) (q + q * q) u, back) refl in
+      gate_listed n q m grain (2 * q + k) p h j allowed (omega (arith, u)) ∙ ap Some is
 
   -- and then the rotations, by qubit and then angle
-  pub rz_at : (k : ℕ) → k < q * angle_count m → slice_get (gates_of (record { n = n; q = q; m = m })) (q + q * q + k) ≡ Some (Rz (k / angle_count m) (angle_at m (k % angle_count m)))
+  pub rz_at : (k : ℕ) → k < q * angle_count m grain → slice_get (gates_of (record { n = n; q = q; m = m; grain = grain })) (q + q * q + k) ≡ Some (Rz (k / angle_count m grain) (angle_at m grain (k % angle_count m grain)))
   rz_at k u =
       let more : q ≤ q * q = le-mul_of_pos_right q p in
       let back : q + q * q + k - (q + q * q) ≡ k = omega arith in
       let not_cx : q + q * q ≤ q + q * q + k = omega arith in
       let not_x : 2 * q ≤ q + q * q + k = omega arith in
       let not_h : q ≤ q + q * q + k = omega arith in
-      let is : gate_at q m (q + q * q + k) ≡ Rz (k / angle_count m) (angle_at m (k % angle_count m)) = rw (le-ltb (q + q * q + k) q not_h, le-ltb (q + q * q + k) (2 * q) not_x, le-ltb (q + q * q + k) (q + q * q) not_cx, back) refl in
-      gate_listed n q m (q + q * q + k) p h j (omega (arith, u)) ∙ ap Some is
+      let is : gate_at q m grain (q + q * q + k) ≡ Rz (k / angle_count m grain) (angle_at m grain (k % angle_count m grain)) = rw (le-ltb (q + q * q + k) q not_h, le-ltb (q + q * q + k) (2 * q) not_x, le-ltb (q + q * q + k) (q + q * q) not_cx, back) refl in
+      gate_listed n q m grain (q + q * q + k) p h j allowed (omega (arith, u)) ∙ ap Some is

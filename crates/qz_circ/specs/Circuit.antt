@@ -6,11 +6,12 @@ use Rattle.qz_circ.specs.declared.circuit.Expr.TheVariants.{Const, Plus, Minus, 
 use Rattle.qz_circ.specs.declared.circuit.Op.{Op}
 use Rattle.qz_circ.specs.declared.circuit.Op.TheVariants.{H, X, Cx, Rz}
 
--- what bounds a circuit: at most n gates on the qubits below q, with the parameters below m
+-- what bounds a circuit: at most n gates on the qubits below q, with the parameters below m and the multiples of π/grain
 pub record Limits : Type 0 where
   pub n : ℕ
   pub q : ℕ
   pub m : ℕ
+  pub grain : ℕ
 
 -- gates from left to right, as they are applied
 abbrev pub Circuit : Type 0
@@ -24,22 +25,22 @@ below n = range_with_len 0 n
 abbrev pub between : ℕ → ℕ → List ℕ
 between i n = range_with_len (i + 1) (n - (i + 1))
 
--- the constant that is this multiple of π/4, in sixteenths of π
-abbrev pub constant_of : ℕ → ℕ
-constant_of k = 4 * k
+-- k·π/grain, in sixteenths of π
+abbrev pub constant_of : ℕ → ℕ → ℕ
+constant_of grain k = k * (16 / grain)
 
--- which multiple of π/4 a constant is
-abbrev pub multiple_of : ℕ → ℕ
-multiple_of t = t / 4
+-- which multiple of π/grain t sixteenths of π are
+abbrev pub multiple_of : ℕ → ℕ → ℕ
+multiple_of grain t = t * grain / 16
 
--- the constants of rules, in order: the multiples of π/4 below a full circle
-abbrev pub constants : List Expr
-constants = map (λ k. Const (constant_of k)) (range_with_len 1 7)
+-- the constants of rules, in order: the multiples of π/grain below a full circle
+abbrev pub constants : ℕ → List Expr
+constants grain = map (λ k. Const (constant_of grain k)) (range_with_len 1 (2 * grain - 1))
 
 -- the angles of rules with m parameters, in order: the constants, the parameters, their negatives, the sums of two
-unfoldable pub angles : ℕ → List Expr
-angles m =
-    constants ++ map Plus (below m) ++ map Minus (below m) ++
+unfoldable pub angles : ℕ → ℕ → List Expr
+angles m grain =
+    constants grain ++ map Plus (below m) ++ map Minus (below m) ++
     flat_map (λ i. map (Sum i) (between i m)) (below m)
 
 -- the gates within the limits, in order: all H by qubit, all X by qubit, all CX by control and then target,
@@ -48,7 +49,7 @@ unfoldable pub gates_of : Limits → List Op
 gates_of b =
     map H (below b.q) ++ map X (below b.q) ++
     flat_map (λ c. map (Cx c) (filter (λ t. not (t == c)) (below b.q))) (below b.q) ++
-    flat_map (λ t. map (Rz t) (angles b.m)) (below b.q)
+    flat_map (λ t. map (Rz t) (angles b.m b.grain)) (below b.q)
 
 -- the circuit has at most n gates, each of them one of the gates within the limits
 pub record Within (b : Limits) (c : Circuit) : Type 0 where

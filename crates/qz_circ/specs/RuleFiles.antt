@@ -1,13 +1,14 @@
 -- What a rule file says: a value, or the first refusal.
-use Rattle.std.specs.Prelude.{◌≡◌, ℕ, ◌+◌, ◌<◌, ◌≤◌, ◌⊎◌, List, [], ◌++◌, length, slice_index_or, Option, Some, None, Result, Ok, Err}
+use Rattle.std.specs.Prelude.{◌≡◌, ℕ, ◌+◌, ◌<◌, ◌≤◌, ◌==◌, ◌||◌, ◌⊎◌, Bool, true, unwrap_or, List, [], ◌++◌, length, slice_index_or, Option, Some, None, Result, Ok, Err}
 use Rattle.std.specs.List.{AllByRecursion}
 use Rattle.qz_circ.specs.declared.fault.RuleFault.{RuleFault}
 use Rattle.qz_circ.specs.declared.fault.RuleFault.TheVariants.{Syntax, Limit, Unsound, Memory}
 use Rattle.qz_circ.specs.Circuit.{Circuit, Limits, Within}
-use Rattle.qz_circ.specs.Bounds.{refusal, IsLawful}
+use Rattle.qz_circ.specs.declared.fault.LimitFault.{LimitFault}
+use Rattle.qz_circ.specs.Bounds.{refusal_where, IsLawful}
 use Rattle.qz_circ.specs.Equivalence.{Equivalent}
 use Rattle.qz_circ.specs.FaultPlaces.{IsFaultPlace, IsFaultPlaceWithin}
-use Rattle.qz_circ.specs.RuleText.{head_text, file_text}
+use Rattle.qz_circ.specs.RuleText.{Head, head_text, file_text}
 
 -- limits, and classes of circuits
 pub record RuleClasses : Type 0 where
@@ -18,12 +19,31 @@ pub record RuleClasses : Type 0 where
 abbrev pub HasAtMostNineDigits : ℕ → Type 0
 HasAtMostNineDigits k = k < 1000000000
 
--- the text is the first two lines with these numbers, whether they are lawful limits or not
-pub record IsHead (b : Limits) (text : List ℕ) : Type 0 where
-  pub gates : HasAtMostNineDigits b.n
-  pub qubits : HasAtMostNineDigits b.q
-  pub params : HasAtMostNineDigits b.m
-  pub text_is : text ≡ head_text b
+-- the limits that the first two lines tell: where they tell no grain, it is 4
+abbrev pub limits_of : Head → Limits
+limits_of h = record { n = h.n; q = h.q; m = h.m; grain = unwrap_or h.grain 4 }
+
+-- a grain that is told is 8 or 16
+abbrev pub is_told_grain : Option ℕ → Bool
+is_told_grain None = true
+is_told_grain (Some grain) = (grain == 8) || (grain == 16)
+
+-- why the numbers of the first two lines are refused, where they are
+abbrev pub head_refusal : Head → Option LimitFault
+head_refusal h = refusal_where (is_told_grain h.grain) (limits_of h)
+
+-- a grain that is told has at most nine digits
+abbrev pub HasFewDigits : Option ℕ → Type 0
+HasFewDigits None = Unit {0}
+HasFewDigits (Some grain) = HasAtMostNineDigits grain
+
+-- the text is the first two lines with these numbers, whether they are lawful or not
+pub record IsHead (h : Head) (text : List ℕ) : Type 0 where
+  pub gates : HasAtMostNineDigits h.n
+  pub qubits : HasAtMostNineDigits h.q
+  pub params : HasAtMostNineDigits h.m
+  pub grain : HasFewDigits h.grain
+  pub text_is : text ≡ head_text h
 
 -- there are two members or more, each a circuit within the limits
 pub record IsClass (b : Limits) (members : List Circuit) : Type 0 where
@@ -41,11 +61,11 @@ pub record IsFile (b : Limits) (classes : List (List Circuit)) (text : List ℕ)
   pub fit : AreClasses b classes
   pub text_is : text ≡ file_text b classes
 
--- the file begins with the first two lines for these limits
-pub record HasHead (b : Limits) (file : List ℕ) : Type 0 where
+-- the file begins with the first two lines with these numbers
+pub record HasHead (h : Head) (file : List ℕ) : Type 0 where
   pub head : List ℕ
   pub rest : List ℕ
-  pub is_head : IsHead b head
+  pub is_head : IsHead h head
   pub parts : file ≡ head ++ rest
 
 -- the members of the class with this number, counted from 0
@@ -86,8 +106,8 @@ IsUnsoundness q classes (Some found) = IsFirstUnsound q classes found.0 found.1
 abbrev pub Reads : List ℕ → Result RuleClasses RuleFault → Type 0
 Reads file (Ok rules) = IsLawful rules.bounds × IsFile rules.bounds rules.classes file × AreSound rules.bounds.q rules.classes
 Reads file (Err (Syntax place)) =
-    IsFaultPlaceWithin IsHead file place ⊎ ((b : Limits) × HasHead b file × IsLawful b × IsFaultPlace (IsFile b) file place)
-Reads file (Err (Limit fault)) = (b : Limits) × HasHead b file × (refusal b ≡ Some fault)
+    IsFaultPlaceWithin IsHead file place ⊎ ((h : Head) × HasHead h file × (head_refusal h ≡ None) × IsFaultPlace (IsFile (limits_of h)) file place)
+Reads file (Err (Limit fault)) = (h : Head) × HasHead h file × (head_refusal h ≡ Some fault)
 Reads file (Err (Unsound class member)) =
     (b : Limits) × (classes : List (List Circuit)) × IsLawful b × IsFile b classes file × IsFirstUnsound b.q classes class member
 Reads file (Err Memory) = ⊥

@@ -13,6 +13,8 @@ pub enum LimitFault {
     Gates,
     /// The number of parameters is over 3.
     Params,
+    /// The grain isn't 4, 8 or 16; in a rule file of version 2 it isn't 8 or 16.
+    Grain,
     /// There are over 8,000,000 circuits of the greatest length.
     Circuits,
 }
@@ -26,6 +28,8 @@ pub enum Which {
     BoundsGates,
     /// Bounds have at most 3 parameters.
     BoundsParams,
+    /// Bounds have the grain 4, 8 or 16, and in a rule file of version 2 the grain 8 or 16.
+    BoundsGrain,
     /// Bounds have at most 8,000,000 circuits of the greatest length.
     BoundsCircuits,
     /// There are 1 to 16 workers.

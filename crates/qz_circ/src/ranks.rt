@@ -1,7 +1,7 @@
 //! The numbers of gates and circuits within bounds: their places in the order of all of them.
-ghost use Rattle.std.specs.Prelude.{◌≡◌, ℕ, ◌+◌, ◌*◌, ◌<◌, ◌≤◌, ◌↔◌, length, slice_get, IsSome, IfSome, IfOk, Some, Contains};
+ghost use Rattle.std.specs.Prelude.{◌≡◌, ℕ, ◌+◌, ◌*◌, ◌<◌, ◌≤◌, ◌↔◌, true, length, slice_get, IsSome, IfSome, IfOk, Some, Contains};
 ghost use Rattle.qz_circ.specs.Circuit.{Within, gates_of, angles};
-ghost use Rattle.qz_circ.specs.Bounds.{gate_count};
+ghost use Rattle.qz_circ.specs.Bounds.{is_grain, gate_count};
 ghost use Rattle.qz_circ.specs.Order.{all_circuits, rank, circuit_at};
 ghost use Rattle.qz_circ.specs.Classes.{without_first, without_last};
 
@@ -13,17 +13,19 @@ use std::alloc::Global;
 
 // The angle with this number among those with m parameters.
 #[tactic(auto, using(std::proofs::lemmas::Bool::Decides::nat_tests, crate::proofs::GateNumbers::angle_listed))]
-fn angle_of(number: u64, m: u64) -> Option<Expr>
-    requires { m ≤ 3 }
-    ensures { result ≡ slice_get (angles m) number }
+fn angle_of(number: u64, m: u64, grain: u64) -> Option<Expr>
+    requires params { m ≤ 3 }
+    requires grain { is_grain grain ≡ true }
+    ensures { result ≡ slice_get (angles m grain) number }
 {
-    if number >= count_angles(m) {
+    if number >= count_angles(m, grain) {
         return None;
     }
-    if number < 7 {
-        return Some(Expr::Const(constant_of(number as u8 + 1)));
+    let constants = 2 * grain - 1;
+    if number < constants {
+        return Some(Expr::Const(constant_of(number as u8 + 1, grain)));
     }
-    let parameter = number as u8 - 7;
+    let parameter = (number - constants) as u8;
     let params = m as u8;
     if parameter < params {
         return Some(Expr::Plus(parameter));
@@ -39,25 +41,27 @@ fn angle_of(number: u64, m: u64) -> Option<Expr>
 }
 
 // The number of an angle among those with m parameters, if it is one of them.
-fn angle_place(angle: Expr, m: u64) -> u64
-    requires { m ≤ 3 }
-    ensures place { (k : ℕ) → slice_get (angles m) k ≡ Some angle → result ≡ k }
-    ensures few { result ≤ 522 }
+fn angle_place(angle: Expr, m: u64, grain: u64) -> u64
+    requires params { m ≤ 3 }
+    requires grain { is_grain grain ≡ true }
+    ensures place { (k : ℕ) → slice_get (angles m grain) k ≡ Some angle → result ≡ k }
+    ensures few { result ≤ 546 }
 {
     match angle {
-        Expr::Const(t) => u64::from(multiple_of(t)).saturating_sub(1),
-        Expr::Plus(i) => 7 + u64::from(i),
-        Expr::Minus(i) => 7 + m + u64::from(i),
-        Expr::Sum(i, j) => 6 + 2 * m + u64::from(i) + u64::from(j),
+        Expr::Const(t) => multiple_of(t, grain).saturating_sub(1),
+        Expr::Plus(i) => 2 * grain - 1 + u64::from(i),
+        Expr::Minus(i) => 2 * grain - 1 + m + u64::from(i),
+        Expr::Sum(i, j) => 2 * grain - 2 + 2 * m + u64::from(i) + u64::from(j),
     }
 }
 
 // The number of a gate among those on q qubits with m parameters, if it is one of them.
-fn op_place(op: Op, q: u64, m: u64) -> u64
+fn op_place(op: Op, q: u64, m: u64, grain: u64) -> u64
     requires some_qubit { 0 < q }
     requires qubits { q ≤ 3 }
     requires params { m ≤ 3 }
-    ensures { (n k : ℕ) → slice_get (gates_of (record { n = n; q = q; m = m })) k ≡ Some op → result ≡ k }
+    requires grain { is_grain grain ≡ true }
+    ensures { (n k : ℕ) → slice_get (gates_of (record { n = n; q = q; m = m; grain = grain })) k ≡ Some op → result ≡ k }
 {
     match op {
         Op::H(t) => u64::from(t),
@@ -66,7 +70,10 @@ fn op_place(op: Op, q: u64, m: u64) -> u64
             let others = u64::from(if c < t { t - 1 } else { t });
             2 * q + u64::from(c) * (q - 1) + others
         }
-        Op::Rz(t, angle) => q + q * q + u64::from(t) * count_angles(m) + angle_place(angle, m),
+        Op::Rz(t, angle) => q
+            + q * q
+            + u64::from(t) * count_angles(m, grain)
+            + angle_place(angle, m, grain),
     }
 }
 
@@ -75,7 +82,7 @@ fn pair_of(number: u64, q: u64) -> Op
     requires several { 2 ≤ q }
     requires qubits { q ≤ 3 }
     requires pairs { 2 * q + number < q + q * q }
-    ensures { (n m : ℕ) → m ≤ 3 → slice_get (gates_of (record { n = n; q = q; m = m })) (2 * q + number) ≡ Some result }
+    ensures { (n m grain : ℕ) → m ≤ 3 → is_grain grain ≡ true → slice_get (gates_of (record { n = n; q = q; m = m; grain = grain })) (2 * q + number) ≡ Some result }
 {
     let control = (number / (q - 1)) as u8;
     let other = (number % (q - 1)) as u8;
@@ -87,28 +94,30 @@ fn pair_of(number: u64, q: u64) -> Op
 }
 
 // The rotation with this number among those on q qubits with m parameters.
-fn rotation_of(number: u64, q: u64, m: u64) -> Option<Op>
+fn rotation_of(number: u64, q: u64, m: u64, grain: u64) -> Option<Op>
     requires some_qubit { 0 < q }
     requires qubits { q ≤ 3 }
     requires params { m ≤ 3 }
-    ensures { (n : ℕ) → result ≡ slice_get (gates_of (record { n = n; q = q; m = m })) (q + q * q + number) }
+    requires grain { is_grain grain ≡ true }
+    ensures { (n : ℕ) → result ≡ slice_get (gates_of (record { n = n; q = q; m = m; grain = grain })) (q + q * q + number) }
 {
-    let angles = count_angles(m);
+    let angles = count_angles(m, grain);
     if number >= q * angles {
         return None;
     }
-    match angle_of(number % angles, m) {
+    match angle_of(number % angles, m, grain) {
         Some(angle) => Some(Op::Rz((number / angles) as u8, angle)),
         None => None,
     }
 }
 
 // The gate with this number among those on q qubits with m parameters.
-fn gate_of(number: u64, q: u64, m: u64) -> Option<Op>
+fn gate_of(number: u64, q: u64, m: u64, grain: u64) -> Option<Op>
     requires some_qubit { 0 < q }
     requires qubits { q ≤ 3 }
     requires params { m ≤ 3 }
-    ensures { (n : ℕ) → result ≡ slice_get (gates_of (record { n = n; q = q; m = m })) number }
+    requires grain { is_grain grain ≡ true }
+    ensures { (n : ℕ) → result ≡ slice_get (gates_of (record { n = n; q = q; m = m; grain = grain })) number }
 {
     if number < q {
         return Some(Op::H(number as u8));
@@ -119,7 +128,7 @@ fn gate_of(number: u64, q: u64, m: u64) -> Option<Op>
     if number < q + q * q {
         return Some(pair_of(number - 2 * q, q));
     }
-    rotation_of(number - (q + q * q), q, m)
+    rotation_of(number - (q + q * q), q, m, grain)
 }
 
 /// The gate with this number among those within the bounds, counted from 0.
@@ -127,7 +136,7 @@ pub fn op_of(number: u64, b: Bounds) -> Option<Op>
     ensures within { IsSome result ↔ number < gate_count b }
     ensures gate { result ≡ slice_get (gates_of b) number }
 {
-    gate_of(number, b.q(), b.m())
+    gate_of(number, b.q(), b.m(), b.grain())
 }
 
 /// The gate's number among those within the bounds, or nothing where it isn't one of them.
@@ -135,7 +144,7 @@ pub fn op_number(op: Op, b: Bounds) -> Option<u64>
     ensures within { IsSome result ↔ Contains (gates_of b) op }
     ensures number { IfSome result (λ k. slice_get (gates_of b) k ≡ Some op) }
 {
-    let number = op_place(op, b.q(), b.m());
+    let number = op_place(op, b.q(), b.m(), b.grain());
     match op_of(number, b) {
         Some(found) if found == op => Some(number),
         _ => None,

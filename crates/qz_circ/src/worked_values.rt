@@ -13,17 +13,17 @@ ghost use Rattle.qz_circ.specs.ProgramCircuits.{IsProgramGate, IsProgramCircuit,
 /// With at most two gates on one qubit there are 91 circuits; X and then a rotation by π/4 comes after 21 of them,
 /// and the last is two rotations by 7π/4.
 pub fn ranks_of_two_gates()
-    ensures circuits { length (all_circuits (record { n = 2; q = 1; m = 0 })) ≡ 91 }
-    ensures at_21 { rank (record { n = 2; q = 1; m = 0 }) (X 0 ∷ Rz 0 (Const 4) ∷ []) ≡ 21 }
-    ensures last { circuit_at (record { n = 2; q = 1; m = 0 }) 90 ≡ Rz 0 (Const 28) ∷ Rz 0 (Const 28) ∷ [] }
+    ensures circuits { length (all_circuits (record { n = 2; q = 1; m = 0; grain = 4 })) ≡ 91 }
+    ensures at_21 { rank (record { n = 2; q = 1; m = 0; grain = 4 }) (X 0 ∷ Rz 0 (Const 4) ∷ []) ≡ 21 }
+    ensures last { circuit_at (record { n = 2; q = 1; m = 0; grain = 4 }) 90 ≡ Rz 0 (Const 28) ∷ Rz 0 (Const 28) ∷ [] }
 {}
 
 /// With one parameter there are 133 circuits of at most two gates on one qubit. With three parameters there are 16
 /// angles, and the one at place 14, counted from 0, is the sum of parameters 0 and 2.
 pub fn angles_come_in_order()
-    ensures circuits { length (all_circuits (record { n = 2; q = 1; m = 1 })) ≡ 133 }
-    ensures angles { length (angles 3) ≡ 16 }
-    ensures at_14 { slice_get (angles 3) 14 ≡ Some (Sum 0 2) }
+    ensures circuits { length (all_circuits (record { n = 2; q = 1; m = 1; grain = 4 })) ≡ 133 }
+    ensures angles { length (angles 3 4) ≡ 16 }
+    ensures at_14 { slice_get (angles 3 4) 14 ≡ Some (Sum 0 2) }
 {}
 
 /// CX on control 0 and target 1 takes state 1, where qubit 0 alone is 1, to state 3, where both are; and keeps state 2.

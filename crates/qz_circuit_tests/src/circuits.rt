@@ -103,6 +103,37 @@ fn bounds_are_refused_in_order(rt: HostRuntime) {
     }
 }
 
+fn refusal_with_grain(n: u64, q: u64, m: u64, grain: u64) -> Option<LimitFault> {
+    Bounds::with_grain(n, q, m, grain).err()
+}
+
+// A grain that isn't allowed comes after the number of parameters, and before that of circuits.
+#[test]
+fn grains_are_refused_in_order(rt: HostRuntime) {
+    let rows = [
+        ([5, 1, 0, 8], None),
+        ([4, 1, 3, 16], None),
+        ([6, 1, 0, 8], Some(LimitFault::Circuits)),
+        ([1, 1, 0, 5], Some(LimitFault::Grain)),
+        ([6, 3, 3, 32], Some(LimitFault::Grain)),
+        ([1, 1, 4, 5], Some(LimitFault::Params)),
+    ];
+    for ([n, q, m, grain], fault) in rows {
+        assert!(rt; refusal_with_grain(n, q, m, grain) == fault);
+    }
+}
+
+// The constants are the multiples of π/8: there are 17 gates on one qubit, and the angle of number 5 is 4·π/8.
+#[test]
+fn ranks_with_finer_constants(rt: HostRuntime) -> Result<(), Fail> {
+    let b = Bounds::with_grain(2, 1, 0, 8)?;
+    assert!(rt; sizes(b) == [2, 1, 0, 17, 307]);
+    assert!(rt; gate_at(5, b) == Some(Op::Rz(0, Expr::Const(8))));
+    assert!(rt; number_of(Op::Rz(0, Expr::Const(30)), b) == Some(16));
+    assert!(rt; number_of(Op::Rz(0, Expr::Const(3)), b).is_none());
+    Ok(())
+}
+
 fn no_classes(alloc: Global, b: Bounds) -> Classes {
     Classes::empty(alloc, b)
 }

@@ -85,5 +85,7 @@ fn reports_count_circuits_and_fingerprints(rt: HostRuntime) -> Result<(), Fail> 
         let found = counts_of(rt.alloc(), Bounds::new(n, q, m)?, seed)?;
         assert!(rt; found == counts);
     }
+    let finer = counts_of(rt.alloc(), Bounds::with_grain(2, 1, 0, 8)?, 0)?;
+    assert!(rt; finer == [306, 307, 33, 277, 63]);
     Ok(())
 }

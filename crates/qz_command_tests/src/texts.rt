@@ -78,6 +78,7 @@ fn limits() -> [(Status, &'static str); 17] {
         (Limit(Which::BoundsQubits), "limit: bounds-qubits\n"),
         (Limit(Which::BoundsGates), "limit: bounds-gates\n"),
         (Limit(Which::BoundsParams), "limit: bounds-params\n"),
+        (Limit(Which::BoundsGrain), "limit: bounds-grain\n"),
         (Limit(Which::BoundsCircuits), "limit: bounds-circuits\n"),
         (Limit(Which::Workers), "limit: workers\n"),
         (Limit(Which::PlanBatch), "limit: plan-batch\n"),

@@ -95,7 +95,7 @@ unfolding scaled_ways root2 paths ways_along ways_through identity_ways entry
 sum_equivalent = (zero_exponent, same_ways (scaled_ways 1 parameters_in_turn sum_at_once) (scaled_ways 1 sum_at_once parameters_in_turn) refl refl refl refl)
 
 abbrev three_gates : Limits
-three_gates = record { n = 3; q = 1; m = 0 }
+three_gates = record { n = 3; q = 1; m = 0; grain = 4 }
 
 -- two flips are no representative
 flips_not_first : IsRepresentative three_gates (X 0 ∷ X 0 ∷ []) → ⊥
@@ -103,7 +103,7 @@ unfolding circuit_cmp gate_cmp
 flips_not_first h = h.first [] (record { short = omega arith; gates = tt }) refl (symmetric 1 (X 0 ∷ X 0 ∷ []) [] two_flips)
 
 -- so three are not kept
-pub flips_not_kept : IsKept (record { n = 3; q = 1; m = 0 }) (X 0 ∷ X 0 ∷ X 0 ∷ []) → ⊥
+pub flips_not_kept : IsKept (record { n = 3; q = 1; m = 0; grain = 4 }) (X 0 ∷ X 0 ∷ X 0 ∷ []) → ⊥
 flips_not_kept h = not_both h.parts
   where
     not_both : (X 0 ∷ X 0 ∷ X 0 ∷ [] ≡ []) ⊎ (IsRepresentative three_gates (X 0 ∷ X 0 ∷ []) × IsRepresentative three_gates (X 0 ∷ X 0 ∷ [])) → ⊥

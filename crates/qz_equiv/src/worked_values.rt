@@ -35,7 +35,7 @@ pub fn different_parameters_differ()
 /// Three flips are not kept: without the first they are no representative, since no gate at all does the same.
 #[tactic(auto, using(crate::proofs::WorkedValues::flips_not_kept))]
 pub fn three_flips_are_not_kept()
-    ensures { ¬ IsKept (record { n = 3; q = 1; m = 0 }) (X 0 ∷ X 0 ∷ X 0 ∷ []) }
+    ensures { ¬ IsKept (record { n = 3; q = 1; m = 0; grain = 4 }) (X 0 ∷ X 0 ∷ X 0 ∷ []) }
 {}
 
 /// In programs, H twice is the same as no gate, once its two factors 1/√2 are made up for.

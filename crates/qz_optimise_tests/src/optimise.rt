@@ -155,6 +155,11 @@ fn places_faults_of_rule_files(rt: HostRuntime) {
     let rows = [
         ("", Status::RuleSyntax { place: 0 }),
         ("quartz-rules 3\nbounds 2 1 0\n", version),
+        ("quartz-rules 2", Status::RuleSyntax { place: 14 }),
+        (
+            "quartz-rules 2\nbounds 2 1 0\n",
+            Status::RuleSyntax { place: 27 },
+        ),
     ];
     refuses(&rt, rt.alloc(), &rows);
     for (lines, place) in faulty_lines() {
@@ -171,12 +176,17 @@ fn refuses_bounds_and_unsound_rules(rt: HostRuntime) {
         "quartz-rules 1\nbounds 2 1 2\nclasses 2\nclass 2\nx 0\nx 0\nclass 3\nx 0;rz(p0) 0\nrz(-p0) 0;x 0\nrz(p0) 0;x 0\nend\n";
     let qubits = Status::Limit(Which::BoundsQubits);
     let params = Status::Limit(Which::BoundsParams);
+    let grain = Status::Limit(Which::BoundsGrain);
     let circuits = Status::Limit(Which::BoundsCircuits);
     let rows = [
         (gates, Status::Limit(Which::BoundsGates)),
         ("quartz-rules 1\nbounds 2 4 0\n", qubits),
         ("quartz-rules 1\nbounds 2 1 4\nx", params),
+        ("quartz-rules 2\nbounds 2 1 4 5\n", params),
+        ("quartz-rules 2\nbounds 2 1 0 4\n", grain),
+        ("quartz-rules 2\nbounds 6 3 3 12\n", grain),
         ("quartz-rules 1\nbounds 5 2 2\n", circuits),
+        ("quartz-rules 2\nbounds 6 1 0 8\n", circuits),
         (second, unsound(1, 2)),
         (third, unsound(2, 3)),
     ];

@@ -18,17 +18,17 @@ pub fn rotations_cancel_between_gates()
 /// Within three gates on one qubit, two flips before an H are joined with the H alone by the class of the ranks 0 and 20,
 /// which are of no gate and of two flips.
 pub fn two_flips_are_taken_out()
-    ensures { Joined (circuits_of_ranks (record { n = 3; q = 1; m = 0 }) ((0 ∷ 20 ∷ []) ∷ [])) 3 (X 0 ∷ X 0 ∷ H 0 ∷ []) (H 0 ∷ []) }
+    ensures { Joined (circuits_of_ranks (record { n = 3; q = 1; m = 0; grain = 4 }) ((0 ∷ 20 ∷ []) ∷ [])) 3 (X 0 ∷ X 0 ∷ H 0 ∷ []) (H 0 ∷ []) }
 {}
 
 /// They are not joined without a class, nor over circuits of at most two gates.
 pub fn two_flips_stay()
     ensures no_class { ¬ Joined [] 3 (X 0 ∷ X 0 ∷ H 0 ∷ []) (H 0 ∷ []) }
-    ensures too_short { ¬ Joined (circuits_of_ranks (record { n = 3; q = 1; m = 0 }) ((0 ∷ 20 ∷ []) ∷ [])) 2 (X 0 ∷ X 0 ∷ H 0 ∷ []) (H 0 ∷ []) }
+    ensures too_short { ¬ Joined (circuits_of_ranks (record { n = 3; q = 1; m = 0; grain = 4 }) ((0 ∷ 20 ∷ []) ∷ [])) 2 (X 0 ∷ X 0 ∷ H 0 ∷ []) (H 0 ∷ []) }
 {}
 
 /// The empty list of classes is not complete within two gates on one qubit: two flips and no gate are equivalent, and it
 /// does not join them.
 pub fn empty_list_is_not_complete()
-    ensures { ¬ JoinsEquivalent (record { n = 2; q = 1; m = 0 }) [] }
+    ensures { ¬ JoinsEquivalent (record { n = 2; q = 1; m = 0; grain = 4 }) [] }
 {}

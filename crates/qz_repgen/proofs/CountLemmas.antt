@@ -16,7 +16,6 @@ use Rattle.qz_circ.specs.Bounds.{IsLawful, gate_count}
 use Rattle.qz_circ.specs.Circuit.{Limits}
 use Rattle.qz_circ.specs.Classes.{ListsExactly, IsMemberRank, IsClassList}
 use Rattle.qz_circ.specs.Order.{all_circuits}
-use Rattle.qz_circ.proofs.BoundsLemmas.{in_range, gate_count_is}
 use Rattle.qz_circ.proofs.CircuitPlaces.{Contains-map}
 use Rattle.qz_circ.proofs.ClassLaws.{Rises, rises_tail, first_below}
 use Rattle.qz_circ.proofs.RankLemmas.{all_few}
@@ -201,28 +200,3 @@ module _ (b : Limits) (lawful : IsLawful b) (classes : List (List ℕ)) (list : 
   all_members =
       let product : length classes * 9000000 ≤ 9000000 * 9000000 = mul-le-mul_right 9000000 few_classes in
       omega (arith, sum_by-le length 9000000 classes few_members, product)
-
--- ---- gates
-
--- there are at most sixty gates
-few_by_numbers : (q m : ℕ) → q ≤ 3 → m ≤ 3 → q * (1 + q + (7 + 2 * m + m * (m - 1) / 2)) ≤ 60
-few_by_numbers zero m h k = omega arith
-few_by_numbers (suc zero) zero h k = omega arith
-few_by_numbers (suc zero) (suc zero) h k = omega arith
-few_by_numbers (suc zero) (suc (suc zero)) h k = omega arith
-few_by_numbers (suc zero) (suc (suc (suc zero))) h k = omega arith
-few_by_numbers (suc (suc zero)) zero h k = omega arith
-few_by_numbers (suc (suc zero)) (suc zero) h k = omega arith
-few_by_numbers (suc (suc zero)) (suc (suc zero)) h k = omega arith
-few_by_numbers (suc (suc zero)) (suc (suc (suc zero))) h k = omega arith
-few_by_numbers (suc (suc (suc zero))) zero h k = omega arith
-few_by_numbers (suc (suc (suc zero))) (suc zero) h k = omega arith
-few_by_numbers (suc (suc (suc zero))) (suc (suc zero)) h k = omega arith
-few_by_numbers (suc (suc (suc zero))) (suc (suc (suc zero))) h k = omega arith
-few_by_numbers (suc (suc (suc (suc q)))) m h k = absurd (omega arith)
-few_by_numbers q (suc (suc (suc (suc m)))) h k = absurd (omega arith)
-
-pub few_gates : (b : Limits) → IsLawful b → gate_count b ≤ 60
-few_gates b lawful =
-    let range = in_range b lawful in
-    omega (arith, gate_count_is b.n b.q b.m range.qubits range.params, few_by_numbers b.q b.m range.qubits range.params)

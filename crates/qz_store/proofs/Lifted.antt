@@ -32,11 +32,12 @@ mark_tells b probe number shard same =
     let at_n : shard.bounds.n ≡ b.n = cc in
     let at_q : shard.bounds.q ≡ b.q = cc in
     let at_m : shard.bounds.m ≡ b.m = cc in
+    let at_grain : shard.bounds.grain ≡ b.grain = cc in
     let at_seed : shard.probe.seed ≡ probe.seed = cc in
     let at_qubits : shard.probe.q ≡ probe.q = cc in
     record {
       number_is = at_number;
-      bounds_are = (λ i. record { n = at_n i; q = at_q i; m = at_m i });
+      bounds_are = (λ i. record { n = at_n i; q = at_q i; m = at_m i; grain = at_grain i });
       probe_is = (λ i. record { seed = at_seed i; q = at_qubits i });
     }
 

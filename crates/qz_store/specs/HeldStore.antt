@@ -10,7 +10,7 @@ use Rattle.qz_store.specs.Stores.{StoreParts, list_of, old_journal}
 
 -- what of a shard stays while its journal grows: the number, the bounds and the probe
 abbrev pub mark_with : Limits → ProbeParts → ℕ → List ℕ
-mark_with b probe number = number ∷ b.n ∷ b.q ∷ b.m ∷ probe.seed ∷ probe.q ∷ []
+mark_with b probe number = number ∷ b.n ∷ b.q ∷ b.m ∷ b.grain ∷ probe.seed ∷ probe.q ∷ []
 
 abbrev pub shard_mark : ShardParts → List ℕ
 shard_mark shard = mark_with shard.bounds shard.probe shard.number

@@ -5,7 +5,7 @@ use Rattle.std.proofs.lemmas.Bool.{cases_order, eqb-false}
 use Rattle.std.specs.List.{AllByRecursion}
 use Rattle.qz_circ.specs.declared.circuit.Inst.TheVariants.{H, X, Cx, Rz}
 use Rattle.qz_circ.specs.Circuit.{below, gates_of, angles}
-use Rattle.qz_circ.specs.Bounds.{refusal, gate_count, IsLawful}
+use Rattle.qz_circ.specs.Bounds.{refusal, refusal_where, gate_count, IsLawful}
 use Rattle.qz_circ.specs.ProgramCircuits.{IsProgramGate}
 use Rattle.qz_circ.proofs.RisingLists.{each_of_all, each-map}
 use Rattle.qz_random.specs.RandomWords.{word}
@@ -13,7 +13,7 @@ use Rattle.qz_top.specs.Trial.{controlled, gate_of_kind, trial_gate, trial_circu
 
 -- the limits of the rules are lawful
 pub trial_lawful : IsLawful trial_limits
-unfolding refusal gate_count gates_of angles
+unfolding refusal refusal_where gate_count gates_of angles
 trial_lawful = refl
 
 -- counted round, so many past the next of q is another one

@@ -18,6 +18,7 @@ abbrev pub which_name : Which → List ℕ
 which_name which.BoundsQubits = codes "bounds-qubits"
 which_name which.BoundsGates = codes "bounds-gates"
 which_name which.BoundsParams = codes "bounds-params"
+which_name which.BoundsGrain = codes "bounds-grain"
 which_name which.BoundsCircuits = codes "bounds-circuits"
 which_name which.Workers = codes "workers"
 which_name which.PlanBatch = codes "plan-batch"

@@ -1,7 +1,7 @@
 -- The numbers of statuses.
 use Rattle.std.specs.Prelude.{ℕ}
 use Rattle.qz_circ.specs.declared.fault.Which.{Which}
-use Rattle.qz_circ.specs.declared.fault.Which.TheVariants.{BoundsQubits, BoundsGates, BoundsParams, BoundsCircuits, Workers, PlanBatch, PlanCap, PlanRounds, PlanSlack, RuleBytes, TrialQubits, TrialGates}
+use Rattle.qz_circ.specs.declared.fault.Which.TheVariants.{BoundsQubits, BoundsGates, BoundsParams, BoundsGrain, BoundsCircuits, Workers, PlanBatch, PlanCap, PlanRounds, PlanSlack, RuleBytes, TrialQubits, TrialGates}
 use Rattle.qz_top.specs.declared.status.Status.{Status}
 use Rattle.qz_top.specs.declared.status.Status.TheVariants.{Ok, Memory, Usage, Limit, Qasm, RuleSyntax, Unsound, NoFile, ReadFault, WriteFault, ShelfFault}
 
@@ -52,6 +52,7 @@ abbrev pub IsLimitBeforeInput : Which → Type 0
 IsLimitBeforeInput BoundsQubits = Unit {0}
 IsLimitBeforeInput BoundsGates = Unit {0}
 IsLimitBeforeInput BoundsParams = Unit {0}
+IsLimitBeforeInput BoundsGrain = Unit {0}
 IsLimitBeforeInput BoundsCircuits = Unit {0}
 IsLimitBeforeInput Workers = Unit {0}
 IsLimitBeforeInput PlanBatch = Unit {0}

@@ -44,7 +44,7 @@ trial_circuit seed q g = map (trial_gate seed q) (below g)
 
 -- the rules are those of circuits of at most two gates on two qubits, with one parameter
 abbrev pub trial_limits : Limits
-trial_limits = record { n = 2; q = 2; m = 1 }
+trial_limits = record { n = 2; q = 2; m = 1; grain = 4 }
 
 -- four rounds that take two circuits each, a queue of 20, and no slack
 abbrev pub trial_plan : PlanNumbers

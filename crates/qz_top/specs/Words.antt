@@ -5,9 +5,9 @@ use Rattle.std.specs.List.{list_all}
 use Rattle.std.specs.Option.{unwrap_or, option_or, option_map, option_and_then}
 use Rattle.std.specs.Str.{bytes_eq}
 use Rattle.qz_circ.specs.declared.fault.LimitFault.{LimitFault}
-use Rattle.qz_circ.specs.declared.fault.LimitFault.TheVariants.{Qubits, Gates, Params, Circuits}
+use Rattle.qz_circ.specs.declared.fault.LimitFault.TheVariants.{Qubits, Gates, Params, Grain, Circuits}
 use Rattle.qz_circ.specs.declared.fault.Which.{Which}
-use Rattle.qz_circ.specs.declared.fault.Which.TheVariants.{BoundsQubits, BoundsGates, BoundsParams, BoundsCircuits, Workers, PlanBatch, PlanCap, PlanRounds, PlanSlack, TrialQubits, TrialGates}
+use Rattle.qz_circ.specs.declared.fault.Which.TheVariants.{BoundsQubits, BoundsGates, BoundsParams, BoundsGrain, BoundsCircuits, Workers, PlanBatch, PlanCap, PlanRounds, PlanSlack, TrialQubits, TrialGates}
 use Rattle.qz_circ.specs.Circuit.{Limits}
 use Rattle.qz_circ.specs.Bounds.{refusal}
 use Rattle.qz_circ.specs.Search.{PlanNumbers}
@@ -139,6 +139,7 @@ abbrev pub which_of : LimitFault → Which
 which_of Qubits = BoundsQubits
 which_of Gates = BoundsGates
 which_of Params = BoundsParams
+which_of Grain = BoundsGrain
 which_of Circuits = BoundsCircuits
 
 -- the limit that a command names where its plan is refused for this
@@ -210,7 +211,7 @@ trial seed q g = unless_passed (trial_limit q g) (Trial seed q g)
 
 -- the limits with these numbers, where all three are numbers
 abbrev pub limits_of : Option ℕ → Option ℕ → Option ℕ → Option Limits
-limits_of (Some n) (Some q) (Some m) = Some (record { n = n; q = q; m = m })
+limits_of (Some n) (Some q) (Some m) = Some (record { n = n; q = q; m = m; grain = 4 })
 limits_of n q m = None
 
 -- the command that is made of what words say; where they say nothing, they are in no written form

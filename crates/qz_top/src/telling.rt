@@ -20,6 +20,7 @@ fn which_name(which: Which) -> &'static str
         Which::BoundsQubits => "bounds-qubits",
         Which::BoundsGates => "bounds-gates",
         Which::BoundsParams => "bounds-params",
+        Which::BoundsGrain => "bounds-grain",
         Which::BoundsCircuits => "bounds-circuits",
         Which::Workers => "workers",
         Which::PlanBatch => "plan-batch",

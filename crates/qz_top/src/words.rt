@@ -329,6 +329,7 @@ pub(crate) fn limit_of(fault: LimitFault) -> Which
         LimitFault::Qubits => Which::BoundsQubits,
         LimitFault::Gates => Which::BoundsGates,
         LimitFault::Params => Which::BoundsParams,
+        LimitFault::Grain => Which::BoundsGrain,
         LimitFault::Circuits => Which::BoundsCircuits,
     }
 }
@@ -387,7 +388,7 @@ fn unless_passed(limit: Option<Which>, command: Command) -> Result<Command, Word
 
 // The generation within these limits and with these options.
 fn generation(n: u64, q: u64, m: u64, given: Options) -> Result<Command, WordFault>
-    ensures command { result ≡ generation (record { n = n; q = q; m = m }) given }
+    ensures command { result ≡ generation (record { n = n; q = q; m = m; grain = 4 }) given }
     ensures lawful { IfOk result IsLawfulCommand }
 {
     match Bounds::new(n, q, m) {
@@ -439,7 +440,7 @@ fn trial(seed: u64, qubits: u64, gates: u64) -> Result<Command, WordFault>
 
 // The numbers of these three words.
 fn three_numbers(n: &str, q: &str, m: &str) -> Option<(u64, u64, u64)>
-    ensures { limits_of (number_of n.now) (number_of q.now) (number_of m.now) ≡ option_map (λ t. record { n = t.0; q = t.1; m = t.2 }) result }
+    ensures { limits_of (number_of n.now) (number_of q.now) (number_of m.now) ≡ option_map (λ t. record { n = t.0; q = t.1; m = t.2; grain = 4 }) result }
 {
     Some((number(n)?, number(q)?, number(m)?))
 }

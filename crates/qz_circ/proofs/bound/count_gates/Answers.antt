@@ -5,5 +5,5 @@ use Rattle.qz_circ.proofs.bound.count_gates.Goals as goal
 
 pub returns-clause-count : goal.returns-clause-count
 returns-clause-count c n =
-    ap (λ k. c.args.q * (1 + c.args.q + k)) (c.count_angles.ensures.count ∙ (angle_table c.args.m c.requires.params).count) ∙
-    sym (gate_count_is n c.args.q c.args.m c.requires.qubits c.requires.params)
+    ap (λ k. c.args.q * (1 + c.args.q + k)) (c.count_angles.ensures.count ∙ (angle_table c.args.m c.args.grain c.requires.params c.requires.grain).count) ∙
+    sym (gate_count_is n c.args.q c.args.m c.args.grain c.requires.qubits c.requires.params c.requires.grain)

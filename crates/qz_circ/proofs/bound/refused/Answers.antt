@@ -4,6 +4,6 @@ use Rattle.qz_circ.proofs.bound.refused.Goals as goal
 
 pub pow-requires : goal.pow-requires
 pow-requires c =
-    let more : c.count_gates.result ^ c.args.n ≤ 60 ^ c.args.n = pow-le-pow_left c.count_gates.ensures.few c.args.n in
-    let most : 60 ^ c.args.n ≤ 60 ^ 6 = pow-le-pow_right {n = 60} (omega arith) {i = c.args.n} {j = 6} (omega arith) in
+    let more : c.count_gates.result ^ c.args.n ≤ 132 ^ c.args.n = pow-le-pow_left c.count_gates.ensures.few c.args.n in
+    let most : 132 ^ c.args.n ≤ 132 ^ 6 = pow-le-pow_right {n = 132} (omega arith) {i = c.args.n} {j = 6} (omega arith) in
     omega (arith, more, most)

@@ -1,7 +1,7 @@
-use Rattle.std.proofs.Common.{rules, ◌≡◌, slice_get, IsSome, ◌↔◌, ◌<◌, sym, subst, arith, Option, length}
+use Rattle.std.proofs.Common.{rules, ◌≡◌, slice_get, IsSome, ◌↔◌, ◌<◌, sym, subst, ap, ◌∙◌, arith, Option, length}
 use Rattle.qz_circ.proofs.BoundsLemmas.{in_range}
 use Rattle.qz_circ.specs.Circuit.{gates_of}
-use Rattle.qz_circ.specs.Bounds.{gate_count}
+use Rattle.qz_circ.specs.Bounds.{is_grain, gate_count}
 use Rattle.qz_circ.specs.declared.circuit.Op.{Op}
 use Rattle.qz_circ.proofs.GateNumbers.{listed_within}
 use Rattle.qz_circ.proofs.ranks.op_of.Goals as goal
@@ -14,6 +14,9 @@ gate_of-requires-clause-qubits c = omega (arith, (in_range c.args.b c.q.ensures.
 
 pub gate_of-requires-clause-params : goal.gate_of-requires-clause-params
 gate_of-requires-clause-params c = omega (arith, (in_range c.args.b c.q.ensures.lawful).params)
+
+pub gate_of-requires-clause-grain : goal.gate_of-requires-clause-grain
+gate_of-requires-clause-grain c = c.grain.ensures.allowed
 
 pub returns-clause-within : goal.returns-clause-within
 unfolding gate_count

@@ -3,7 +3,7 @@ use Rattle.std.proofs.Math.Nat.{mul-le-mul_right}
 use Rattle.qz_repgen.specs.Journals.{IsKeptRank}
 use Rattle.qz_repgen.specs.Numbers.{IsNumberOf}
 use Rattle.qz_repgen.specs.Reports.{IsExtended, IsPrint}
-use Rattle.qz_repgen.proofs.CountLemmas.{few_entries, number_of_entries, number_of_prints, few_gates}
+use Rattle.qz_repgen.proofs.CountLemmas.{few_entries, number_of_entries, number_of_prints}
 use Rattle.qz_repgen.proofs.LowerLaws.{ranks_are_order}
 use Rattle.qz_repgen.proofs.RankLaws.{representative_below}
 use Rattle.qz_repgen.proofs.RoundLemmas.{few_ranks}
@@ -13,9 +13,8 @@ pub overflow_mul-result : goal.overflow_mul-result
 overflow_mul-result c =
     let lawful = c.gates.ensures.lawful in
     let few : c.args.representatives ≤ 9000000 = few_ranks c.args.b lawful (IsExtended c.args.b) c.args.representatives (λ r h. representative_below c.args.b (ranks_are_order c.args.b lawful) r h.representative) c.requires.representatives in
-    let gates : c.gates.result ≤ 60 = omega (arith, c.gates.ensures.value, few_gates c.args.b lawful) in
     let product : c.args.representatives * c.gates.result ≤ 9000000 * c.gates.result = mul-le-mul_right c.gates.result few in
-    record { fits = omega (arith, product, gates) }
+    record { fits = omega (arith, product, c.gates.ensures.few) }
 
 pub entries-requires-clause-few : goal.entries-requires-clause-few
 entries-requires-clause-few c = few_entries c.args.b c.args.seed c.args.shards.now c.requires.held c.gates.ensures.lawful

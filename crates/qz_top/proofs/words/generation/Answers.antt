@@ -6,4 +6,4 @@ use Rattle.qz_top.proofs.words.generation.Goals as goal
 pub returns-in-Err-clause-command : goal.returns-in-Err-clause-command
 returns-in-Err-clause-command c =
     ap (λ w. Err (Limit w)) c.limit_of.ensures ∙
-    generation_refused (record { n = c.args.n; q = c.args.q; m = c.args.m }) c.args.given c.in-Err.fault ((c.in-Err.ensures.refused c.in-Err.fault).0 refl)
+    generation_refused (record { n = c.args.n; q = c.args.q; m = c.args.m; grain = 4 }) c.args.given c.in-Err.fault ((c.in-Err.ensures.refused c.in-Err.fault).0 refl)
