@@ -108,7 +108,7 @@ abbrev pub IsRank : Limits → ℕ → Type 0
 IsRank b r = r < length (all_circuits b)
 
 abbrev pub rank_line : Limits → ℕ → List ℕ
-rank_line b r = member_text (circuit_at b r)
+rank_line b r = member_text b.grain (circuit_at b r)
 
 line_exact : (b : Limits) → IsLawful b → Exact (Spelled (IsRank b) (rank_line b)) (member_at b)
 line_exact b h = spelling (IsMember b) (Spelled (IsRank b) (rank_line b)) (member_at b) (λ r text m. record { fit = m.listed; text_is = m.text_is }) (λ r text s. record { listed = s.fit; text_is = s.text_is }) (member_exact b h)
@@ -120,13 +120,13 @@ pub record AreMembers (b : Limits) (ranks : List ℕ) : Type 0 where
   pub listed : AllByRecursion (IsRank b) ranks
 
 abbrev pub ranks_text : Limits → List ℕ → List ℕ
-ranks_text b ranks = class_text (map (circuit_at b) ranks)
+ranks_text b ranks = class_text b.grain (map (circuit_at b) ranks)
 
 -- the text of a class, by its pieces
 class_pieces : (b : Limits) (ranks : List ℕ) → ranks_text b ranks ≡ (class_word ++ (decimal (length ranks) ++ 10 ∷ [])) ++ flat_map (rank_line b) ranks
 unfolding class_text class_word
 class_pieces b ranks =
-    rw (length-map ranks (circuit_at b), flat_map-map member_text (circuit_at b) ranks) (regroup (codes "class ") (decimal (length ranks)) (10 ∷ []) (flat_map (rank_line b) ranks))
+    rw (length-map ranks (circuit_at b), flat_map-map (member_text b.grain) (circuit_at b) ranks) (regroup (codes "class ") (decimal (length ranks)) (10 ∷ []) (flat_map (rank_line b) ranks))
   where
     regroup : (w n e m : List ℕ) → ((w ++ n) ++ e) ++ m ≡ (w ++ (n ++ e)) ++ m
     regroup w n e m = simp append_assoc
@@ -170,12 +170,12 @@ pub record AreRankClasses (b : Limits) (lists : List (List ℕ)) : Type 0 where
   pub each : AllByRecursion (AreMembers b) lists
 
 abbrev pub lists_text : Limits → List (List ℕ) → List ℕ
-lists_text b lists = classes_text (circuits_of_ranks b lists)
+lists_text b lists = classes_text b.grain (circuits_of_ranks b lists)
 
 lists_pieces : (b : Limits) (lists : List (List ℕ)) → lists_text b lists ≡ (classes_word ++ (decimal (length lists) ++ 10 ∷ [])) ++ (flat_map (ranks_text b) lists ++ (end_word ++ []))
 unfolding classes_text classes_word end_word
 lists_pieces b lists =
-    rw (length-map lists (map (circuit_at b)), flat_map-map class_text (map (circuit_at b)) lists) (regroup (codes "classes ") (decimal (length lists)) (10 ∷ []) (flat_map (ranks_text b) lists) (codes "end\n"))
+    rw (length-map lists (map (circuit_at b)), flat_map-map (class_text b.grain) (map (circuit_at b)) lists) (regroup (codes "classes ") (decimal (length lists)) (10 ∷ []) (flat_map (ranks_text b) lists) (codes "end\n"))
   where
     regroup : (w n e m t : List ℕ) → ((w ++ n) ++ e) ++ m ++ t ≡ (w ++ (n ++ e)) ++ (m ++ (t ++ []))
     regroup w n e m t = simp (append_assoc, append-nil)
@@ -229,71 +229,3 @@ classes_exact b h =
     (λ k c n. andthen (SpelledTimes (AreMembers b) (ranks_text b) k) (λ lists. Then (OneOf (end_word ∷ [])) (λ _. Now lists)) (times_at (class_at b) k)
     (λ lists bytes. one_of_at (end_word ∷ []) bytes >>= λ e. Ok (lists, e.1)) (times_exact (AreMembers b) (ranks_text b) (class_at b) (class_exact b h) k)
     (λ lists d s. andthen (OneOf (end_word ∷ [])) (λ _. Now lists) (one_of_at (end_word ∷ [])) (λ _ bytes. Ok (lists, bytes)) (word_exact end_word) (λ _ t e. now lists))))
-
--- ---- the first two lines
-
-abbrev head_parts : Language Limits
-head_parts = Then (OneOf (head_word ∷ [])) (λ _. Then (IsNumber 32 0) (λ n. Then (IsNumber 32 0) (λ q. Then (IsNumber 10 0) (λ m. Now (record { n = n; q = q; m = m })))))
-
-head_pieces : (b : Limits) → head_text b ≡ head_word ++ ((decimal b.n ++ 32 ∷ []) ++ ((decimal b.q ++ 32 ∷ []) ++ ((decimal b.m ++ 10 ∷ []) ++ [])))
-unfolding head_text head_word
-head_pieces b = regroup (codes "quartz-rules 1") (10 ∷ []) (codes "bounds ") (decimal b.n) (32 ∷ []) (decimal b.q) (decimal b.m)
-  where
-    regroup : (v e w n s q m : List ℕ) → (v ++ e) ++ ((w ++ n ++ s ++ q ++ s ++ m) ++ e) ≡ (v ++ e ++ w) ++ ((n ++ s) ++ ((q ++ s) ++ ((m ++ e) ++ [])))
-    regroup v e w n s q m = simp (append_assoc, append-nil)
-
-head_to : (b : Limits) (text : List ℕ) → head_parts b text → IsHead b text
-head_to b text h =
-    let word = word_is head_word h.0 h.1 h.3 in
-    let n = h.4 in
-    let q = n.4 in
-    let m = q.4 in
-    let same : b ≡ record { n = n.0; q = q.0; m = m.0 } = m.4.0 in
-    let behind_m : q.2 ≡ (decimal m.0 ++ 10 ∷ []) ++ [] = m.5 ∙ ap (λ (z : List ℕ). z ++ m.2) m.3.text_is ∙ ap (λ (z : List ℕ). (decimal m.0 ++ 10 ∷ []) ++ z) m.4.1 in
-    let behind_q : n.2 ≡ (decimal q.0 ++ 32 ∷ []) ++ ((decimal m.0 ++ 10 ∷ []) ++ []) = q.5 ∙ ap (λ (z : List ℕ). z ++ q.2) q.3.text_is ∙ ap (λ (z : List ℕ). (decimal q.0 ++ 32 ∷ []) ++ z) behind_m in
-    let behind_n : h.2 ≡ (decimal n.0 ++ 32 ∷ []) ++ ((decimal q.0 ++ 32 ∷ []) ++ ((decimal m.0 ++ 10 ∷ []) ++ [])) = n.5 ∙ ap (λ (z : List ℕ). z ++ n.2) n.3.text_is ∙ ap (λ (z : List ℕ). (decimal n.0 ++ 32 ∷ []) ++ z) behind_q in
-    subst (λ (c : Limits). IsHead c text) (sym same) (record {
-      gates = n.3.few;
-      qubits = q.3.few;
-      params = m.3.few;
-      text_is = h.5 ∙ ap (λ (z : List ℕ). z ++ h.2) word ∙ ap (λ (z : List ℕ). head_word ++ z) behind_n ∙ sym (head_pieces (record { n = n.0; q = q.0; m = m.0 }));
-    })
-
-head_from : (b : Limits) (text : List ℕ) → IsHead b text → head_parts b text
-head_from b text h = (
-  0,
-  head_word,
-  (decimal b.n ++ 32 ∷ []) ++ ((decimal b.q ++ 32 ∷ []) ++ ((decimal b.m ++ 10 ∷ []) ++ [])),
-  refl,
-  (
-    b.n,
-    decimal b.n ++ 32 ∷ [],
-    (decimal b.q ++ 32 ∷ []) ++ ((decimal b.m ++ 10 ∷ []) ++ []),
-    record { least = omega arith; few = h.gates; text_is = refl },
-    (
-      b.q,
-      decimal b.q ++ 32 ∷ [],
-      (decimal b.m ++ 10 ∷ []) ++ [],
-      record { least = omega arith; few = h.qubits; text_is = refl },
-      (b.m, decimal b.m ++ 10 ∷ [], [], record { least = omega arith; few = h.params; text_is = refl }, (refl, refl), refl),
-      refl,
-    ),
-    refl,
-  ),
-  h.text_is ∙ head_pieces b,
-)
-
--- the first two lines are read exactly
-pub head_exact : Exact IsHead head_at
-unfolding head_at
-head_exact =
-    spelling head_parts IsHead (λ bytes. one_of_at (head_word ∷ []) bytes >>= λ w. number_at 32 0 w.1 >>= λ n. number_at 32 0 n.1 >>= λ q. number_at 10 0 q.1 >>= λ m. Ok (record { n = n.0; q = q.0; m = m.0 }, m.1))
-    head_to head_from
-    (andthen (OneOf (head_word ∷ [])) (λ _. Then (IsNumber 32 0) (λ n. Then (IsNumber 32 0) (λ q. Then (IsNumber 10 0) (λ m. Now (record { n = n; q = q; m = m }))))) (one_of_at (head_word ∷ []))
-    (λ _ bytes. number_at 32 0 bytes >>= λ n. number_at 32 0 n.1 >>= λ q. number_at 10 0 q.1 >>= λ m. Ok (record { n = n.0; q = q.0; m = m.0 }, m.1)) (word_exact head_word)
-    (λ _ a o. andthen (IsNumber 32 0) (λ n. Then (IsNumber 32 0) (λ q. Then (IsNumber 10 0) (λ m. Now (record { n = n; q = q; m = m })))) (number_at 32 0)
-    (λ n bytes. number_at 32 0 bytes >>= λ q. number_at 10 0 q.1 >>= λ m. Ok (record { n = n; q = q.0; m = m.0 }, m.1)) (number_exact 32 0 (omega arith) (omega arith))
-    (λ n c s. andthen (IsNumber 32 0) (λ q. Then (IsNumber 10 0) (λ m. Now (record { n = n; q = q; m = m }))) (number_at 32 0)
-    (λ q bytes. number_at 10 0 bytes >>= λ m. Ok (record { n = n; q = q; m = m.0 }, m.1)) (number_exact 32 0 (omega arith) (omega arith))
-    (λ q d t. andthen (IsNumber 10 0) (λ m. Now (record { n = n; q = q; m = m })) (number_at 10 0) (λ m bytes. Ok (record { n = n; q = q; m = m }, bytes)) (number_exact 10 0 (omega arith) (omega arith))
-    (λ m e u. now (record { n = n; q = q; m = m }))))))

@@ -6,6 +6,8 @@ mod Numbers
 mod GateTables
 mod Members
 mod Files
+mod Heads
+mod HeadLaws
 mod PartSteps
 mod Folds
 mod Places

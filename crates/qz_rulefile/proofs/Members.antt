@@ -30,15 +30,15 @@ choose L false r s on_true on_false = on_false refl
 -- ---- behind the gates
 
 -- the gates that follow others, each behind a semicolon, and the end of the line
-after : Circuit → List ℕ
-after c = flat_map (λ g. 59 ∷ gate_text g) c ++ 10 ∷ []
+after : ℕ → Circuit → List ℕ
+after grain c = flat_map (λ g. 59 ∷ gate_text grain g) c ++ 10 ∷ []
 
 -- the circuit with rank s is that with rank r and then the gates of this text, at most so many
 record IsAfter (b : Limits) (left r s : ℕ) (text : List ℕ) : Type 0 where
   gates : Circuit
   short : length gates ≤ left
   within : AllByRecursion (Contains (gates_of b)) gates
-  text_is : text ≡ after gates
+  text_is : text ≡ after b.grain gates
   circuit : circuit_at b s ≡ circuit_at b r ++ gates
   listed : s < length (all_circuits b)
 
@@ -75,7 +75,7 @@ one_after b i left r k s gate text f g a =
       gates = g.gate ∷ a.gates;
       short = omega (arith, a.short);
       within = (contains_from_listed (gates_of b) k g.gate g.here, a.within);
-      text_is = ap (λ (z : List ℕ). 59 ∷ z ++ text) g.text_is ∙ ap (λ (z : List ℕ). 59 ∷ gate_text g.gate ++ z) a.text_is ∙ sym (append_assoc (59 ∷ gate_text g.gate) (flat_map (λ h. 59 ∷ gate_text h) a.gates) (10 ∷ []));
+      text_is = ap (λ (z : List ℕ). 59 ∷ z ++ text) g.text_is ∙ ap (λ (z : List ℕ). 59 ∷ gate_text b.grain g.gate ++ z) a.text_is ∙ sym (append_assoc (59 ∷ gate_text b.grain g.gate) (flat_map (λ h. 59 ∷ gate_text b.grain h) a.gates) (10 ∷ []));
       circuit = a.circuit ∙ ap (λ (z : Circuit). z ++ a.gates) m.circuit ∙ append_assoc (circuit_at b r) (get_or (gates_of b) k (H 0) ∷ []) a.gates ∙ ap (λ (z : Op). circuit_at b r ++ z ∷ a.gates) g.at;
       listed = a.listed;
     }
@@ -90,14 +90,14 @@ record Goes (b : Limits) (left r s : ℕ) (text : List ℕ) : Type 0 where
   gate : Op
   rest : List ℕ
   here : slice_get (gates_of b) number ≡ Some gate
-  text_is : text ≡ (59 ∷ gate_text gate) ++ rest
+  text_is : text ≡ (59 ∷ gate_text b.grain gate) ++ rest
   behind : IsAfter b left (r * gate_count b + suc number) s rest
 
 ends_or_goes : (b : Limits) → IsLawful b → (i left r s : ℕ) (text : List ℕ) → IsFront b i (suc left) r → IsAfter b (suc left) r s text → ((s ≡ r) × (text ≡ 10 ∷ [])) ⊎ Goes b left r s text
 unfolding after gate_count
 ends_or_goes b h i left r s text f a = by_gates a.gates a.short a.within a.text_is a.circuit
   where
-    by_gates : (gates : Circuit) → length gates ≤ suc left → AllByRecursion (Contains (gates_of b)) gates → text ≡ flat_map (λ g. 59 ∷ gate_text g) gates ++ 10 ∷ [] → circuit_at b s ≡ circuit_at b r ++ gates → ((s ≡ r) × (text ≡ 10 ∷ [])) ⊎ Goes b left r s text
+    by_gates : (gates : Circuit) → length gates ≤ suc left → AllByRecursion (Contains (gates_of b)) gates → text ≡ flat_map (λ g. 59 ∷ gate_text b.grain g) gates ++ 10 ∷ [] → circuit_at b s ≡ circuit_at b r ++ gates → ((s ≡ r) × (text ≡ 10 ∷ [])) ⊎ Goes b left r s text
     by_gates [] short within t e = inl (same_rank b h r s f.listed a.listed (e ∙ append-nil (circuit_at b r)), t)
     by_gates (g ∷ gates) short within t e =
         let here = listed_from_contains (gates_of b) g within.0 in
@@ -108,9 +108,9 @@ ends_or_goes b h i left r s text f a = by_gates a.gates a.short a.within a.text_
         inr (record {
           number = k;
           gate = g;
-          rest = flat_map (λ g. 59 ∷ gate_text g) gates ++ 10 ∷ [];
+          rest = flat_map (λ g. 59 ∷ gate_text b.grain g) gates ++ 10 ∷ [];
           here = here;
-          text_is = t ∙ append_assoc (59 ∷ gate_text g) (flat_map (λ g. 59 ∷ gate_text g) gates) (10 ∷ []);
+          text_is = t ∙ append_assoc (59 ∷ gate_text b.grain g) (flat_map (λ g. 59 ∷ gate_text b.grain g) gates) (10 ∷ []);
           behind = record {
             gates = gates;
             short = omega arith;
@@ -152,7 +152,7 @@ ends : (b : Limits) → IsLawful b → (i r s : ℕ) (text : List ℕ) → IsFro
 unfolding after
 ends b h i r s text f a = by_gates a.gates a.short a.text_is a.circuit
   where
-    by_gates : (gates : Circuit) → length gates ≤ 0 → text ≡ flat_map (λ g. 59 ∷ gate_text g) gates ++ 10 ∷ [] → circuit_at b s ≡ circuit_at b r ++ gates → (s ≡ r) × (text ≡ 10 ∷ [])
+    by_gates : (gates : Circuit) → length gates ≤ 0 → text ≡ flat_map (λ g. 59 ∷ gate_text b.grain g) gates ++ 10 ∷ [] → circuit_at b s ≡ circuit_at b r ++ gates → (s ≡ r) × (text ≡ 10 ∷ [])
     by_gates [] short t e = (same_rank b h r s f.listed a.listed (e ∙ append-nil (circuit_at b r)), t)
     by_gates (g ∷ gates) short t e = absurd (omega arith)
 
@@ -174,7 +174,7 @@ unfolding NextIs
 is_next b h i left r f s text a =
     elim (ends_or_goes b h i left r s text f a) [
       | inl e ↦ (0, 10 ∷ [], [], end_listed b, inl (refl, (e.0, refl)), e.1)
-      | inr g ↦ (suc g.number, 59 ∷ gate_text g.gate, g.rest, next_of_gate b g.number g.gate g.here, inr (g.number, refl, g.behind), g.text_is)
+      | inr g ↦ (suc g.number, 59 ∷ gate_text b.grain g.gate, g.rest, next_of_gate b g.number g.gate g.here, inr (g.number, refl, g.behind), g.text_is)
     ]
 
 -- the rest of a member is read exactly
@@ -201,16 +201,16 @@ more_exact b h (suc left) i r f =
 -- the text is the line of the circuit with this rank
 pub record IsMember (b : Limits) (r : ℕ) (text : List ℕ) : Type 0 where
   pub listed : r < length (all_circuits b)
-  pub text_is : text ≡ member_text (circuit_at b r)
+  pub text_is : text ≡ member_text b.grain (circuit_at b r)
 
 -- the line of a circuit of some gates
-some_text : (g : Op) (c : Circuit) → member_text (g ∷ c) ≡ gate_text g ++ after c
+some_text : (grain : ℕ) (g : Op) (c : Circuit) → member_text grain (g ∷ c) ≡ gate_text grain g ++ after grain c
 unfolding member_text circuit_text after
-some_text g c = ap (λ (z : List ℕ). z ++ 10 ∷ []) (joined_texts 59 gate_text g c) ∙ append_assoc (gate_text g) (flat_map (λ h. 59 ∷ gate_text h) c) (10 ∷ [])
+some_text grain g c = ap (λ (z : List ℕ). z ++ 10 ∷ []) (joined_texts 59 (gate_text grain) g c) ∙ append_assoc (gate_text grain g) (flat_map (λ h. 59 ∷ gate_text grain h) c) (10 ∷ [])
 
-empty_text : member_text [] ≡ 45 ∷ 10 ∷ []
+empty_text : (grain : ℕ) → member_text grain [] ≡ 45 ∷ 10 ∷ []
 unfolding member_text circuit_text
-empty_text = refl
+empty_text grain = refl
 
 -- no gates stand in front of a member
 nothing_in_front : (b : Limits) → (left : ℕ) → b.n ≡ suc left → IsFront b 0 (suc left) 0
@@ -268,7 +268,7 @@ first_is b s text t =
           let line : t.1 ≡ 45 ∷ 10 ∷ [] = first_empty b t.1 (subst (λ j. slice_get (first_texts b) j ≡ Some t.1) n.0 t.3) in
           record {
             listed = rw n.1.0 (none_listed b);
-            text_is = t.5 ∙ ap (λ (z : List ℕ). t.1 ++ z) n.1.1 ∙ append-nil t.1 ∙ line ∙ sym empty_text ∙ ap member_text (sym (ap (circuit_at b) n.1.0 ∙ circuit_at-zero b));
+            text_is = t.5 ∙ ap (λ (z : List ℕ). t.1 ++ z) n.1.1 ∙ append-nil t.1 ∙ line ∙ sym (empty_text b.grain) ∙ ap (member_text b.grain) (sym (ap (circuit_at b) n.1.0 ∙ circuit_at-zero b));
           }
       | inr n ↦
           let g = first_listed b n.0 t.1 (subst (λ j. slice_get (first_texts b) j ≡ Some t.1) n.1 t.3) in
@@ -276,7 +276,7 @@ first_is b s text t =
           let whole : circuit_at b s ≡ g.1.gate ∷ rest.gates = rest.circuit ∙ ap (λ (z : Circuit). z ++ rest.gates) (one_gate b n.0 n.2 g.1.number) ∙ ap (λ (z : Op). z ∷ rest.gates) g.1.at in
           record {
             listed = rest.listed;
-            text_is = t.5 ∙ ap (λ (z : List ℕ). z ++ t.2) g.1.text_is ∙ ap (λ (z : List ℕ). gate_text g.1.gate ++ z) rest.text_is ∙ sym (some_text g.1.gate rest.gates) ∙ ap member_text (sym whole);
+            text_is = t.5 ∙ ap (λ (z : List ℕ). z ++ t.2) g.1.text_is ∙ ap (λ (z : List ℕ). gate_text b.grain g.1.gate ++ z) rest.text_is ∙ sym (some_text b.grain g.1.gate rest.gates) ∙ ap (member_text b.grain) (sym whole);
           }
     ]
 
@@ -286,7 +286,7 @@ is_first b h s text m = by_circuit (circuit_at b s) refl (circuit_at-within b s 
   where
     by_circuit : (c : Circuit) → circuit_at b s ≡ c → Within b (circuit_at b s) → Then (OneOf (first_texts b)) (FirstIs b) s text
     by_circuit [] e w =
-        (0, 45 ∷ 10 ∷ [], [], empty_listed b, inl (refl, (same_rank b h 0 s (none_listed b) m.listed (e ∙ sym (circuit_at-zero b)), refl)), m.text_is ∙ ap member_text e ∙ empty_text)
+        (0, 45 ∷ 10 ∷ [], [], empty_listed b, inl (refl, (same_rank b h 0 s (none_listed b) m.listed (e ∙ sym (circuit_at-zero b)), refl)), m.text_is ∙ ap (member_text b.grain) e ∙ empty_text b.grain)
     by_circuit (g ∷ c) e w =
         let within : Within b (g ∷ c) = subst (Within b) e w in
         let some : 0 < b.n = omega (arith, within.short) in
@@ -295,8 +295,8 @@ is_first b h s text m = by_circuit (circuit_at b s) refl (circuit_at-within b s 
         let number : k < gate_count b = slice_get_within (gates_of b) k g here in
         let at : get_or (gates_of b) k (H 0) ≡ g = get_or_from_slice_get (gates_of b) k g (H 0) here in (
           suc k,
-          gate_text g,
-          after c,
+          gate_text b.grain g,
+          after b.grain c,
           first_of_gate b k g some here,
           inr (
             k,
@@ -311,7 +311,7 @@ is_first b h s text m = by_circuit (circuit_at b s) refl (circuit_at-within b s 
               listed = m.listed;
             },
           ),
-          m.text_is ∙ ap member_text e ∙ some_text g c,
+          m.text_is ∙ ap (member_text b.grain) e ∙ some_text b.grain g c,
         )
 
 -- the line of a member is read exactly

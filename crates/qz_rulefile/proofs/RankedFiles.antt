@@ -8,7 +8,7 @@ use Rattle.qz_circ.specs.FirstFault.{◌>>=◌}
 use Rattle.qz_circ.specs.Order.{circuit_at, rank}
 use Rattle.qz_circ.specs.RuleFiles.{IsClass, AreClasses, IsFile, IsHead}
 use Rattle.qz_circ.specs.Joined.{circuits_of_ranks}
-use Rattle.qz_circ.specs.RuleText.{head_text, classes_text}
+use Rattle.qz_circ.specs.RuleText.{head_of, head_text, classes_text}
 use Rattle.qz_circ.proofs.CircuitPlaces.{circuit_at-within}
 use Rattle.qz_circ.proofs.RankLemmas.{circuit_at-rank, rank_listed}
 use Rattle.qz_rulefile.specs.Reading.{Read, one_of_at, classes_at}
@@ -21,24 +21,24 @@ use Rattle.qz_rulefile.proofs.Files.{Spelled, IsRank, AreMembers, AreRankClasses
 -- the text is the rule file of the circuits with these ranks
 pub record IsRankFile (b : Limits) (lists : List (List ℕ)) (text : List ℕ) : Type 0 where
   pub fit : AreRankClasses b lists
-  pub text_is : text ≡ head_text b ++ lists_text b lists
+  pub text_is : text ≡ head_text (head_of b) ++ lists_text b lists
 
 -- a reader of whole files, where the limits are known
 abbrev pub file_at : Limits → List ℕ → Read (List (List ℕ))
-file_at b bytes = one_of_at (head_text b ∷ []) bytes >>= λ w. classes_at b w.1
+file_at b bytes = one_of_at (head_text (head_of b) ∷ []) bytes >>= λ w. classes_at b w.1
 
 pub file_exact : (b : Limits) → IsLawful b → Exact (IsRankFile b) (file_at b)
 file_exact b h =
-    spelling (Then (OneOf (head_text b ∷ [])) (λ _. Spelled (AreRankClasses b) (lists_text b))) (IsRankFile b) (file_at b)
-    (λ lists text t. record { fit = t.4.fit; text_is = t.5 ∙ ap (λ (z : List ℕ). z ++ t.2) (word_is (head_text b) t.0 t.1 t.3) ∙ ap (λ (z : List ℕ). head_text b ++ z) t.4.text_is })
-    (λ lists text f. (0, head_text b, lists_text b lists, refl, record { fit = f.fit; text_is = refl }, f.text_is))
-    (andthen (OneOf (head_text b ∷ [])) (λ _. Spelled (AreRankClasses b) (lists_text b)) (one_of_at (head_text b ∷ [])) (λ _. classes_at b) (word_exact (head_text b)) (λ _ a o. classes_exact b h))
+    spelling (Then (OneOf (head_text (head_of b) ∷ [])) (λ _. Spelled (AreRankClasses b) (lists_text b))) (IsRankFile b) (file_at b)
+    (λ lists text t. record { fit = t.4.fit; text_is = t.5 ∙ ap (λ (z : List ℕ). z ++ t.2) (word_is (head_text (head_of b)) t.0 t.1 t.3) ∙ ap (λ (z : List ℕ). head_text (head_of b) ++ z) t.4.text_is })
+    (λ lists text f. (0, head_text (head_of b), lists_text b lists, refl, record { fit = f.fit; text_is = refl }, f.text_is))
+    (andthen (OneOf (head_text (head_of b) ∷ [])) (λ _. Spelled (AreRankClasses b) (lists_text b)) (one_of_at (head_text (head_of b) ∷ [])) (λ _. classes_at b) (word_exact (head_text (head_of b))) (λ _ a o. classes_exact b h))
 
 -- behind the first two lines the reader reads the classes
-pub behind_head : (b : Limits) (head rest file : List ℕ) → IsHead b head → file ≡ head ++ rest → file_at b file ≡ classes_at b rest
+pub behind_head : (b : Limits) (head rest file : List ℕ) → IsHead (head_of b) head → file ≡ head ++ rest → file_at b file ≡ classes_at b rest
 behind_head b head rest file h parts =
-    let whole : file ≡ head_text b ++ rest = parts ∙ ap (λ (z : List ℕ). z ++ rest) h.text_is in
-    let read : one_of_at (head_text b ∷ []) file ≡ Ok (0, rest) = ap (one_of_at (head_text b ∷ [])) whole ∙ (word_exact (head_text b)).again 0 (head_text b) rest refl in
+    let whole : file ≡ head_text (head_of b) ++ rest = parts ∙ ap (λ (z : List ℕ). z ++ rest) h.text_is in
+    let read : one_of_at (head_text (head_of b) ∷ []) file ≡ Ok (0, rest) = ap (one_of_at (head_text (head_of b) ∷ [])) whole ∙ (word_exact (head_text (head_of b))).again 0 (head_text (head_of b)) rest refl in
     ap (λ r. r >>= λ w. classes_at b w.1) read
 
 -- ---- circuits for ranks
@@ -86,7 +86,7 @@ ranks_of_file b h classes text f =
       map (map (rank b)) classes,
       record {
         fit = record { few = omega (arith, f.fit.few, length-map classes (map (rank b))); each = each_ranked b h classes f.fit.each };
-        text_is = f.text_is ∙ ap (λ (z : List (List Circuit)). head_text b ++ classes_text z) (sym back);
+        text_is = f.text_is ∙ ap (λ (z : List (List Circuit)). head_text (head_of b) ++ classes_text b.grain z) (sym back);
       },
       back,
     )

@@ -1,34 +1,35 @@
 -- A file has one reading.
-use Rattle.std.proofs.Common.{◌≡◌, ℕ, ◌<◌, List, [], Some, Result, Ok, Err, refl, sym, ap, subst, ◌∙◌, inl, inr, arith}
+use Rattle.std.proofs.Common.{◌≡◌, ℕ, ◌<◌, List, [], None, Some, Result, Ok, Err, refl, sym, ap, subst, ◌∙◌, inl, inr, arith}
 use Rattle.std.proofs.lemmas.Bool.{cases_lt}
 use Rattle.std.proofs.lemmas.Option.{none-some, same_Some}
 use Rattle.qz_circ.specs.declared.fault.LimitFault.{LimitFault}
 use Rattle.qz_circ.specs.declared.fault.RuleFault.{RuleFault}
 use Rattle.qz_circ.specs.declared.fault.RuleFault.TheVariants.{Syntax, Limit, Unsound, Memory}
 use Rattle.qz_circ.specs.Circuit.{Circuit, Limits}
-use Rattle.qz_circ.specs.Bounds.{refusal, IsLawful}
+use Rattle.qz_circ.specs.Bounds.{IsLawful}
 use Rattle.qz_circ.specs.FaultPlaces.{IsFaultPlace, IsFaultPlaceWithin}
 use Rattle.qz_circ.specs.Joined.{circuits_of_ranks}
-use Rattle.qz_circ.specs.RuleText.{head_text, classes_text}
-use Rattle.qz_circ.specs.RuleFiles.{RuleClasses, IsFile, IsHead, HasHead, AreSound, IsSoundAt, IsFirstUnsound, Reads}
+use Rattle.qz_circ.specs.RuleText.{Head, head_of, head_text, classes_text}
+use Rattle.qz_circ.specs.RuleFiles.{RuleClasses, IsFile, IsHead, HasHead, limits_of, head_refusal, AreSound, IsSoundAt, IsFirstUnsound, Reads}
 use Rattle.qz_circ.proofs.BoundsLemmas.{in_range}
 use Rattle.qz_rulefile.specs.Reading.{head_at}
-use Rattle.qz_rulefile.proofs.Files.{head_exact}
+use Rattle.qz_rulefile.proofs.Heads.{head_exact}
+use Rattle.qz_rulefile.proofs.HeadLaws.{tells, limits_back, head_lawful}
 use Rattle.qz_rulefile.proofs.Places.{one_value, one_place}
 use Rattle.qz_rulefile.proofs.RankedFiles.{IsRankFile, file_at, file_exact, ranks_of_file}
 
 -- two heads of one file are the same
-same_head : (file : List ℕ) (b c : Limits) → HasHead b file → HasHead c file → b ≡ c
+same_head : (file : List ℕ) (b c : Head) → HasHead b file → HasHead c file → b ≡ c
 same_head file b c h k = (one_value IsHead head_at head_exact b c h.head k.head h.rest k.rest h.is_head k.is_head (sym h.parts ∙ k.parts)).0
 
 -- a whole file begins with its head
-head_of_file : (b : Limits) (classes : List (List Circuit)) (file : List ℕ) → IsLawful b → IsFile b classes file → HasHead b file
+head_of_file : (b : Limits) (classes : List (List Circuit)) (file : List ℕ) → IsLawful b → IsFile b classes file → HasHead (head_of b) file
 head_of_file b classes file h f =
     let range = in_range b h in
     record {
-      head = head_text b;
-      rest = classes_text classes;
-      is_head = record { gates = omega (arith, range.gates); qubits = omega (arith, range.qubits); params = omega (arith, range.params); text_is = refl };
+      head = head_text (head_of b);
+      rest = classes_text b.grain classes;
+      is_head = record { gates = omega (arith, range.gates); qubits = omega (arith, range.qubits); params = omega (arith, range.params); grain = (tells b.grain range.grain).few; text_is = refl };
       parts = f.text_is;
     }
 
@@ -41,11 +42,12 @@ same_classes b classes others file h f g =
     sym r.2 ∙ ap (circuits_of_ranks b) same.0 ∙ s.2
 
 -- a file that begins with a head has no fault within it
-no_fault_within : (file : List ℕ) (b : Limits) (place : ℕ) → HasHead b file → IsFaultPlaceWithin IsHead file place → ⊥
+no_fault_within : (file : List ℕ) (b : Head) (place : ℕ) → HasHead b file → IsFaultPlaceWithin IsHead file place → ⊥
 no_fault_within file b place h p = p.1 b h.head h.rest h.is_head h.parts
 
-lawful_or_not : (b : Limits) (fault : LimitFault) → IsLawful b → refusal b ≡ Some fault → ⊥
-lawful_or_not b fault h r = none-some fault (sym h ∙ r)
+-- two heads of one file are refused alike
+lawful_or_not : (file : List ℕ) (h k : Head) (fault : LimitFault) → HasHead h file → HasHead k file → head_refusal h ≡ None → head_refusal k ≡ Some fault → ⊥
+lawful_or_not file h k fault a b lawful refused = none-some fault (sym lawful ∙ ap head_refusal (same_head file h k a b) ∙ refused)
 
 -- a sound value has no unsound member
 sound_or_not : (q : ℕ) (classes : List (List Circuit)) (class member : ℕ) → AreSound q classes → IsFirstUnsound q classes class member → ⊥
@@ -74,30 +76,30 @@ same_place file p r (inl a) (inr b) = absurd (no_fault_within file b.0 p b.1 a)
 same_place file p r (inr a) (inl b) = absurd (no_fault_within file a.0 r a.1 b)
 same_place file p r (inr a) (inr b) =
     let same = same_head file a.0 b.0 a.1 b.1 in
-    one_place (IsFile b.0) file p r (subst (λ c. IsFaultPlace (IsFile c) file p) same a.3).0 b.3.0
+    one_place (IsFile (limits_of b.0)) file p r (subst (λ c. IsFaultPlace (IsFile (limits_of c)) file p) same a.3).0 b.3.0
 
 -- a file with such a fault isn't the text of classes
 no_file : (file : List ℕ) (p : ℕ) (b : Limits) (classes : List (List Circuit)) → Reads file (Err (Syntax p)) → IsLawful b → IsFile b classes file → ⊥
-no_file file p b classes (inl a) h f = no_fault_within file b p (head_of_file b classes file h f) a
+no_file file p b classes (inl a) h f = no_fault_within file (head_of b) p (head_of_file b classes file h f) a
 no_file file p b classes (inr a) h f =
-    let same = same_head file a.0 b a.1 (head_of_file b classes file h f) in
+    let same = ap limits_of (same_head file a.0 (head_of b) a.1 (head_of_file b classes file h f)) ∙ limits_back b h in
     (subst (λ c. IsFaultPlace (IsFile c) file p) same a.3).1 classes f
 
 -- a file that is refused for its limits has no other fault, and isn't the text of classes
 no_syntax : (file : List ℕ) (p : ℕ) (fault : LimitFault) → Reads file (Err (Syntax p)) → Reads file (Err (Limit fault)) → ⊥
 no_syntax file p fault (inl a) l = no_fault_within file l.0 p l.1 a
-no_syntax file p fault (inr a) l = lawful_or_not l.0 fault (subst IsLawful (same_head file a.0 l.0 a.1 l.1) a.2) l.2
+no_syntax file p fault (inr a) l = lawful_or_not file a.0 l.0 fault a.1 l.1 a.2 l.2
 
 no_text : (file : List ℕ) (fault : LimitFault) (b : Limits) (classes : List (List Circuit)) → Reads file (Err (Limit fault)) → IsLawful b → IsFile b classes file → ⊥
-no_text file fault b classes l h f = lawful_or_not l.0 fault (subst IsLawful (same_head file b l.0 (head_of_file b classes file h f) l.1) h) l.2
+no_text file fault b classes l h f = lawful_or_not file (head_of b) l.0 fault (head_of_file b classes file h f) l.1 (head_lawful b h) l.2
 
 same_limit : (file : List ℕ) (f g : LimitFault) → Reads file (Err (Limit f)) → Reads file (Err (Limit g)) → f ≡ g
-same_limit file f g a b = same_Some f g (sym a.2 ∙ ap refusal (same_head file a.0 b.0 a.1 b.1) ∙ b.2)
+same_limit file f g a b = same_Some f g (sym a.2 ∙ ap head_refusal (same_head file a.0 b.0 a.1 b.1) ∙ b.2)
 
 -- two values of a file are the same
 same_value : (file : List ℕ) (b c : Limits) (classes others : List (List Circuit)) → IsLawful b → IsLawful c → IsFile b classes file → IsFile c others file → (b ≡ c) × (classes ≡ others)
 same_value file b c classes others h k f g =
-    let same = same_head file b c (head_of_file b classes file h f) (head_of_file c others file k g) in
+    let same = sym (limits_back b h) ∙ ap limits_of (same_head file (head_of b) (head_of c) (head_of_file b classes file h f) (head_of_file c others file k g)) ∙ limits_back c k in
     (same, same_classes c classes others file k (subst (λ d. IsFile d classes file) same f) g)
 
 unsound_or_sound : (file : List ℕ) (v : RuleClasses) (class member : ℕ) → Reads file (Ok v) → Reads file (Err (Unsound class member)) → ⊥

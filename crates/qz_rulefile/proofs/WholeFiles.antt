@@ -5,6 +5,7 @@ use Rattle.qz_circ.specs.Circuit.{Limits}
 use Rattle.qz_circ.specs.Bounds.{IsLawful}
 use Rattle.qz_circ.specs.FaultPlaces.{IsFaultPlace}
 use Rattle.qz_circ.specs.Joined.{circuits_of_ranks}
+use Rattle.qz_circ.specs.RuleText.{Head, head_of}
 use Rattle.qz_circ.specs.RuleFiles.{AreClasses, IsFile, IsHead, HasHead}
 use Rattle.qz_rulefile.specs.Layout.{parts}
 use Rattle.qz_rulefile.specs.Flat.{Kept, kept_at, folded_at, with_class, Fails}
@@ -12,7 +13,8 @@ use Rattle.qz_rulefile.specs.Forms.{TellsClasses}
 use Rattle.qz_rulefile.specs.declared.faults.ReadError.{ReadError}
 use Rattle.qz_rulefile.specs.declared.faults.ReadError.TheVariants.{Memory, Left}
 use Rattle.qz_rulefile.specs.Reading.{classes_at, class_at, head_at}
-use Rattle.qz_rulefile.proofs.Files.{Spelled, IsRank, AreMembers, AreRankClasses, lists_text, classes_exact, head_exact}
+use Rattle.qz_rulefile.proofs.Files.{Spelled, IsRank, AreMembers, AreRankClasses, lists_text, classes_exact}
+use Rattle.qz_rulefile.proofs.Heads.{head_exact}
 use Rattle.qz_rulefile.proofs.Folds.{kept_are, kept_fault}
 use Rattle.qz_rulefile.proofs.Layouts.{KeepsLists, flat_keeps}
 use Rattle.qz_rulefile.proofs.Places.{place_of_fault, place_of_rest, left_within, whole_text, place_as}
@@ -44,7 +46,7 @@ pub kept_fit : (b : Limits) (bytes rest members ends : List ℕ) → KeptClasses
 kept_fit b bytes rest members ends k = subst (λ (ps : List (List ℕ)). AreClasses b (circuits_of_ranks b ps)) (sym k.keeps.parts_are) (classes_of_ranks b k.lists k.fit)
 
 -- read to its end the file is that of the classes
-pub kept_file : (b : Limits) → IsLawful b → (bytes rest members ends head : List ℕ) → KeptClasses b bytes rest members ends → length rest ≡ 0 → IsHead b head → IsFile b (circuits_of_ranks b (parts ends members)) (head ++ bytes)
+pub kept_file : (b : Limits) → IsLawful b → (bytes rest members ends head : List ℕ) → KeptClasses b bytes rest members ends → length rest ≡ 0 → IsHead (head_of b) head → IsFile b (circuits_of_ranks b (parts ends members)) (head ++ bytes)
 kept_file b h bytes rest members ends head k none is_head =
     let read : file_at b (head ++ bytes) ≡ Ok (k.lists, rest) = behind_head b head bytes (head ++ bytes) is_head refl ∙ k.read in
     let whole = whole_text (IsRankFile b) (file_at b) (file_exact b h) (head ++ bytes) k.lists rest none read in
@@ -56,7 +58,7 @@ place_of_circuits b h file n p =
     place_as (IsRankFile b) (IsFile b) (λ lists text f. (circuits_of_ranks b lists, file_of_ranks b lists text f)) (λ classes text f. let r = ranks_of_file b h classes text f in (r.0, r.1)) file n p
 
 -- bytes behind the end are a fault
-pub rest_place : (b : Limits) → IsLawful b → (bytes rest members ends head : List ℕ) → KeptClasses b bytes rest members ends → 0 < length rest → IsHead b head → IsFaultPlace (IsFile b) (head ++ bytes) (length (head ++ bytes) - length rest)
+pub rest_place : (b : Limits) → IsLawful b → (bytes rest members ends head : List ℕ) → KeptClasses b bytes rest members ends → 0 < length rest → IsHead (head_of b) head → IsFaultPlace (IsFile b) (head ++ bytes) (length (head ++ bytes) - length rest)
 rest_place b h bytes rest members ends head k some is_head =
     let read : file_at b (head ++ bytes) ≡ Ok (k.lists, rest) = behind_head b head bytes (head ++ bytes) is_head refl ∙ k.read in
     place_of_circuits b h (head ++ bytes) (length (head ++ bytes) - length rest) (place_of_rest (IsRankFile b) (file_at b) (file_exact b h) (head ++ bytes) k.lists rest some read)
@@ -67,7 +69,7 @@ rest_within b h bytes rest members ends k =
     omega (arith, ap length t.2, length-append t.0 rest)
 
 -- a fault behind the first two lines
-pub fault_place : (b : Limits) → IsLawful b → (bytes head : List ℕ) (n : ℕ) → kept_at b bytes ≡ Err n → IsHead b head → IsFaultPlace (IsFile b) (head ++ bytes) (length (head ++ bytes) - n)
+pub fault_place : (b : Limits) → IsLawful b → (bytes head : List ℕ) (n : ℕ) → kept_at b bytes ≡ Err n → IsHead (head_of b) head → IsFaultPlace (IsFile b) (head ++ bytes) (length (head ++ bytes) - n)
 fault_place b h bytes head n e is_head =
     let read : file_at b (head ++ bytes) ≡ Err n = behind_head b head bytes (head ++ bytes) is_head refl ∙ kept_fault b bytes n e in
     place_of_circuits b h (head ++ bytes) (length (head ++ bytes) - n) (place_of_fault (IsRankFile b) (file_at b) (file_exact b h) (head ++ bytes) n read)
@@ -76,11 +78,11 @@ fault_within : (b : Limits) → IsLawful b → (bytes : List ℕ) (n : ℕ) → 
 fault_within b h bytes n e = left_within (Spelled (AreRankClasses b) (lists_text b)) (classes_at b) (classes_exact b h) bytes n (kept_fault b bytes n e)
 
 -- the first two lines that were read
-pub head_of : (b : Limits) (file rest : List ℕ) → head_at file ≡ Ok (b, rest) → (head : List ℕ) × IsHead b head × (file ≡ head ++ rest)
-head_of b file rest e = head_exact.takes file b rest e
+pub head_read : (h : Head) (file rest : List ℕ) → head_at file ≡ Ok (h, rest) → (head : List ℕ) × IsHead h head × (file ≡ head ++ rest)
+head_read h file rest e = head_exact.takes file h rest e
 
-pub has_head : (b : Limits) (file rest : List ℕ) → head_at file ≡ Ok (b, rest) → HasHead b file
-has_head b file rest e = let t = head_of b file rest e in record { head = t.0; rest = rest; is_head = t.1; parts = t.2 }
+pub has_head : (h : Head) (file rest : List ℕ) → head_at file ≡ Ok (h, rest) → HasHead h file
+has_head h file rest e = let t = head_read h file rest e in record { head = t.0; rest = rest; is_head = t.1; parts = t.2 }
 
 -- the classes as they are read into empty lists
 pub from_empty : (b : Limits) (members ends bytes : List ℕ) (count : ℕ) → members ≡ [] → ends ≡ [] → folded_at with_class (record { members = members; ends = ends }) (class_at b) count bytes ≡ folded_at with_class (record { members = []; ends = [] }) (class_at b) count bytes

@@ -1,11 +1,11 @@
 -- Readings of the front of a text, part by part: each gives a value and what is left, or how many bytes are left where
 -- the text stops being lawful.
-use Rattle.std.specs.Prelude.{ℕ, zero, suc, ◌+◌, ◌-◌, ◌*◌, ◌==◌, nat_lt, nat_le, ◌&&◌, if◌then◌else◌, max, Bool, true, List, [], ◌∷◌, map, length, take, drop, codes, Option, Some, None, option_map, Result, Ok, Err}
+use Rattle.std.specs.Prelude.{ℕ, zero, suc, ◌+◌, ◌-◌, ◌*◌, ◌==◌, nat_lt, nat_le, ◌&&◌, if◌then◌else◌, max, Bool, true, false, List, [], ◌∷◌, map, length, take, drop, codes, Option, Some, None, option_map, Result, Ok, Err}
 use Rattle.std.specs.Option.{ok_or}
 use Rattle.qz_circ.specs.FirstFault.{◌>>=◌}
 use Rattle.qz_circ.specs.Circuit.{Limits, gates_of}
 use Rattle.qz_circ.specs.Bounds.{gate_count}
-use Rattle.qz_circ.specs.RuleText.{gate_text}
+use Rattle.qz_circ.specs.RuleText.{Head, gate_text}
 
 -- a value and the bytes after its text, or how many bytes are left
 abbrev pub Read : Type 0 → Type 0
@@ -64,7 +64,7 @@ number_at stop low (b ∷ bytes) =
 
 -- the texts of the gates within limits, in their order
 unfoldable pub gate_texts : Limits → List (List ℕ)
-gate_texts b = map gate_text (gates_of b)
+gate_texts b = map (gate_text b.grain) (gates_of b)
 
 -- what a member begins with: the whole line of the empty circuit, or a gate where gates are allowed
 unfoldable pub first_texts : Limits → List (List ℕ)
@@ -101,7 +101,10 @@ times_at part (suc k) bytes = do
 
 -- the words that lines begin with
 unfoldable pub head_word : List ℕ
-head_word = codes "quartz-rules 1\nbounds "
+head_word = codes "quartz-rules "
+
+unfoldable pub bounds_word : List ℕ
+bounds_word = codes "\nbounds "
 
 unfoldable pub classes_word : List ℕ
 classes_word = codes "classes "
@@ -132,11 +135,32 @@ classes_at b bytes = do
   end ← one_of_at (end_word ∷ []) classes.1
   Ok (classes.0, end.1)
 
--- the first two lines
-unfoldable pub head_at : List ℕ → Read Limits
-head_at bytes = do
+-- the signs of the versions: 1 and 2
+unfoldable pub version_signs : List (List ℕ)
+version_signs = (49 ∷ []) ∷ (50 ∷ []) ∷ []
+
+-- what stands before the numbers of the second line, as the number of the version among the two
+unfoldable pub version_at : List ℕ → Read ℕ
+version_at bytes = do
   word ← one_of_at (head_word ∷ []) bytes
-  n ← number_at 32 0 word.1
+  version ← one_of_at version_signs word.1
+  behind ← one_of_at (bounds_word ∷ []) version.1
+  Ok (version.0, behind.1)
+
+-- the numbers behind those of gates and qubits: that of parameters and, where it is told, the grain
+unfoldable pub last_numbers_at : Bool → ℕ → ℕ → List ℕ → Read Head
+last_numbers_at true n q bytes = do
+  m ← number_at 10 0 bytes
+  Ok (record { n = n; q = q; m = m.0; grain = None }, m.1)
+last_numbers_at false n q bytes = do
+  m ← number_at 32 0 bytes
+  grain ← number_at 10 0 m.1
+  Ok (record { n = n; q = q; m = m.0; grain = Some grain.0 }, grain.1)
+
+-- the first two lines
+unfoldable pub head_at : List ℕ → Read Head
+head_at bytes = do
+  version ← version_at bytes
+  n ← number_at 32 0 version.1
   q ← number_at 32 0 n.1
-  m ← number_at 10 0 q.1
-  Ok (record { n = n.0; q = q.0; m = m.0 }, m.1)
+  last_numbers_at (version.0 == 0) n.0 q.0 q.1

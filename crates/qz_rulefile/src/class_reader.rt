@@ -7,39 +7,10 @@ ghost use Rattle.qz_rulefile.specs.Reading as reading;
 use crate::faults::ReadError;
 use crate::gate_texts::GateTexts;
 use crate::parts::{number, word};
-use qz_circ::Bounds;
 use std::alloc::Global;
-
-// The head of a file: its bounds, lawful or not.
-#[derive(Clone, Copy)]
-pub(crate) struct Head {
-    pub(crate) n: u64,
-    pub(crate) q: u64,
-    pub(crate) m: u64,
-}
 
 // The ranks of all members, class by class, and where the classes end.
 pub(crate) type Kept = (Vec<u32>, Vec<usize>);
-
-// What stands before the numbers of the second line.
-#[tactic(auto, unfolding(crate::specs::Reading::head_word))]
-fn first_words(bytes: &[u8]) -> Result<&[u8], usize>
-    ensures { Gives (λ rest. (0, rest.now)) result (reading.one_of_at (reading.head_word ∷ []) bytes.now) }
-{
-    word(b"quartz-rules 1\nbounds ", bytes)
-}
-
-// The first two lines.
-#[tactic(auto, unfolding(crate::specs::Reading::head_at))]
-pub(crate) fn read_head(bytes: &[u8]) -> Result<(Head, &[u8]), usize>
-    ensures { Gives (λ x. (record { n = x.0.n; q = x.0.q; m = x.0.m }, x.1.now)) result (reading.head_at bytes.now) }
-{
-    let rest = first_words(bytes)?;
-    let (n, rest) = number(b' ', 0, rest)?;
-    let (q, rest) = number(b' ', 0, rest)?;
-    let (m, rest) = number(b'\n', 0, rest)?;
-    Ok((Head { n, q, m }, rest))
-}
 
 // A word and a number no less than low, on a line of their own.
 #[tactic(auto, unfolding(crate::specs::Reading::count_at))]

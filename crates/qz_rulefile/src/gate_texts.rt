@@ -1,6 +1,6 @@
 //! The texts of gates, and reading members by them.
 ghost use Rattle.std.specs.Prelude.{◌≡◌, ◌<◌, ◌≤◌, ◌-◌, ◌++◌, ◌∷◌, [], IfOk, length, map, take, slice_get, Some, true, OnOk};
-ghost use Rattle.qz_circ.specs.Bounds.{gate_count, IsLawful};
+ghost use Rattle.qz_circ.specs.Bounds.{gate_count, is_grain, IsLawful};
 ghost use Rattle.qz_circ.specs.Circuit.{gates_of};
 ghost use Rattle.qz_circ.specs.FirstFault.{Gives};
 ghost use Rattle.qz_circ.specs.Order.{all_circuits};
@@ -29,12 +29,13 @@ pub(crate) struct GateTexts {
 }
 
 // The text of a gate behind some letters.
-fn text_behind(alloc: Global, letters: &[u8], g: Op) -> Result<Vec<u8>, AllocError>
-    ensures { IfOk result (λ text. text.items ≡ letters.now ++ gate_text g) }
+fn text_behind(alloc: Global, letters: &[u8], g: Op, grain: u64) -> Result<Vec<u8>, AllocError>
+    requires { is_grain grain ≡ true }
+    ensures { IfOk result (λ text. text.items ≡ letters.now ++ gate_text grain g) }
 {
     let mut text = Vec::new(alloc);
     text.extend_from_slice(letters)?;
-    push_gate(&mut text, g)?;
+    push_gate(&mut text, g, grain)?;
     Ok(text)
 }
 
@@ -65,13 +66,13 @@ fn table(
     count: u64,
 ) -> Result<Vec<Vec<u8>>, AllocError>
     requires { count ≤ gate_count b }
-    ensures { IfOk result (λ texts. lists_of texts.items ≡ text.now ∷ map (λ g. letters.now ++ gate_text g) (take count (gates_of b))) }
+    ensures { IfOk result (λ texts. lists_of texts.items ≡ text.now ∷ map (λ g. letters.now ++ gate_text b.grain g) (take count (gates_of b))) }
 {
     let mut texts = Vec::new(alloc);
     let first = Vec::from_slice(alloc, text)?;
     push_text(&mut texts, first)?;
     for k in 0..count {
-        let Ok(text) = text_behind(alloc, letters, gate(k, b)) else {
+        let Ok(text) = text_behind(alloc, letters, gate(k, b), b.grain()) else {
             return Err(AllocError);
         };
         push_text(&mut texts, text)?;
@@ -107,8 +108,15 @@ fn digit(b: u8) -> u8 {
     b.wrapping_sub(b'0')
 }
 
-// The gate that the bytes seem to begin with, by a few of them.
-fn seeming_gate(bytes: &[u8]) -> Option<Op> {
+// The number that two digits stand for; of other bytes, any number.
+fn two_digits(tens: u8, ones: u8) -> u8 {
+    digit(tens).wrapping_mul(10).wrapping_add(digit(ones))
+}
+
+// The gate that the bytes seem to begin with, by a few of them. The grain is 4, 8 or 16.
+fn seeming_gate(bytes: &[u8], grain: u64) -> Option<Op>
+    requires { is_grain grain ≡ true }
+{
     match bytes {
         [b'h', _, t, ..] => Some(Op::H(digit(*t))),
         [b'x', _, t, ..] => Some(Op::X(digit(*t))),
@@ -118,9 +126,13 @@ fn seeming_gate(bytes: &[u8]) -> Option<Op> {
             Some(Op::Rz(digit(*t), Expr::Sum(digit(*i), digit(*j))))
         }
         [b'r', _, _, b'p', i, _, _, t, ..] => Some(Op::Rz(digit(*t), Expr::Plus(digit(*i)))),
-        [b'r', _, _, k, _, _, t, ..] => Some(Op::Rz(
+        [b'r', _, _, k, b')', _, t, ..] => Some(Op::Rz(
             digit(*t),
-            Expr::Const(constant_of(digit(*k))),
+            Expr::Const(constant_of(digit(*k), grain)),
+        )),
+        [b'r', _, _, k, l, _, _, t, ..] => Some(Op::Rz(
+            digit(*t),
+            Expr::Const(constant_of(two_digits(*k, *l), grain)),
         )),
         _ => None,
     }
@@ -128,11 +140,11 @@ fn seeming_gate(bytes: &[u8]) -> Option<Op> {
 
 // The place that the gate at the front of the bytes has behind the first text of a table. It is a guess, that spares most looks.
 fn guess(b: Bounds, bytes: &[u8]) -> usize {
-    let Some(op) = seeming_gate(bytes) else {
+    let Some(op) = seeming_gate(bytes, b.grain()) else {
         return 0;
     };
     match op_number(op, b) {
-        Some(k) if k < 60 => k as usize + 1,
+        Some(k) if k < 132 => k as usize + 1,
         _ => 0,
     }
 }

@@ -5,6 +5,7 @@
 mod class_reader;
 mod faults;
 mod gate_texts;
+mod head_reader;
 pub mod laws;
 mod parts;
 mod rank_lists;

@@ -5,9 +5,10 @@ ghost use Rattle.qz_circ.specs.RuleFiles.{Reads};
 ghost use Rattle.qz_rulefile.specs.Flat.{Tells, kept_at};
 ghost use Rattle.qz_rulefile.specs.Forms.{ReadsForm, TellsClasses};
 
-use crate::class_reader::{Kept, classes, classes_count, end, read_head};
+use crate::class_reader::{Kept, classes, classes_count, end};
 use crate::faults::ReadError;
 use crate::gate_texts::GateTexts;
+use crate::head_reader::{bounds_of, read_head};
 use crate::rank_lists::RankLists;
 use crate::rules::Rules;
 use crate::soundness::first_unsound;
@@ -60,7 +61,7 @@ fn read_lists(alloc: Global, bytes: &[u8]) -> Result<RankLists, RuleFault>
             place: (bytes.len() - n) as u64,
         }),
     };
-    let b = match Bounds::new(head.n, head.q, head.m) {
+    let b = match bounds_of(head) {
         Ok(b) => b,
         Err(fault) => return Err(RuleFault::Limit(fault)),
     };

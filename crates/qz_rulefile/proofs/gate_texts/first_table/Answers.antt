@@ -12,7 +12,7 @@ none c = first_made_none c.args.b (lists_of c.in_ok-texts.texts.items) (sym c.n.
 
 some : (c : In_ok-texts-2) → lists_of c.in_ok-texts-2.texts.items ≡ first_texts c.args.b
 some c = first_made_some c.args.b (lists_of c.in_ok-texts-2.texts.items) (λ e. c.if-n-eq0.false (c.n.ensures.value ∙ e))
-    (c.in_ok-texts-2.ensures ∙ ap (λ k. (45 ∷ 10 ∷ []) ∷ map gate_text (take k (gates_of c.args.b))) c.gates.ensures.value)
+    (c.in_ok-texts-2.ensures ∙ ap (λ k. (45 ∷ 10 ∷ []) ∷ map (gate_text c.args.b.grain) (take k (gates_of c.args.b))) c.gates.ensures.value)
 
 pub returns-then-n-eq0-clause-are : goal.returns-then-n-eq0-clause-are
 returns-then-n-eq0-clause-are c = none c
