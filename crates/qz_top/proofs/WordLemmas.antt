@@ -18,7 +18,7 @@ use Rattle.qz_top.specs.declared.words.OptionName.{OptionName}
 use Rattle.qz_top.specs.declared.words.OptionName.TheVariants as option
 use Rattle.qz_top.specs.declared.words.Options.{Options}
 use Rattle.qz_top.specs.declared.words.WordFault.TheVariants.{Limit}
-use Rattle.qz_top.specs.Words.{number_of, option_of, takes_value, no_options, with_value, without_value, options_from, workers_of, seed_of, plan_of}
+use Rattle.qz_top.specs.Words.{number_of, option_of, takes_value, no_options, with_value, without_value, options_from, workers_of, seed_of, grain_of, plan_of}
 use Rattle.qz_top.specs.Words.{which_of, which_of_plan, workers_limit, generation_limit, unless_passed, generation, optimisation, limits_of, command_from, trial_limit, trial, generation_asked, tidying_asked, trial_asked}
 
 -- the value of fewer than nineteen digits and one more fits 64 bits
@@ -37,6 +37,7 @@ no_flag : (given : Options) (name : OptionName) → takes_value name ≡ true �
 no_flag given option.Workers valued = refl
 no_flag given option.Seed valued = refl
 no_flag given option.Report valued = cc
+no_flag given option.Grain valued = refl
 no_flag given option.Rules valued = refl
 no_flag given option.Rounds valued = refl
 no_flag given option.Batch valued = refl
@@ -129,10 +130,13 @@ not_optimise : (limit : Option Which) (b : Limits) (w s : ℕ) (r : Bool) (k : �
 not_optimise None b w s r k plan workers e = cc
 not_optimise (Some which) b w s r k plan workers e = cc
 
-no_generation : (limits : Option Limits) (given : Option Options) (k : ℕ) (plan : PlanNumbers) (workers : ℕ) → command_from (λ b. command_from (generation b) given) limits ≡ Ok (Optimise k plan workers) → ⊥
+no_generation : (limits : Option Limits) (given : Options) (k : ℕ) (plan : PlanNumbers) (workers : ℕ) → command_from (λ b. generation b given) limits ≡ Ok (Optimise k plan workers) → ⊥
 no_generation None given k plan workers e = cc
-no_generation (Some b) None k plan workers e = cc
-no_generation (Some b) (Some given) k plan workers e = not_optimise (generation_limit b (workers_of given)) b (workers_of given) (seed_of given) given.report k plan workers e
+no_generation (Some b) given k plan workers e = not_optimise (generation_limit b (workers_of given)) b (workers_of given) (seed_of given) given.report k plan workers e
+
+no_given : (given : Option Options) (n q m : Option ℕ) (k : ℕ) (plan : PlanNumbers) (workers : ℕ) → command_from (λ given. command_from (λ b. generation b given) (limits_of (grain_of given) n q m)) given ≡ Ok (Optimise k plan workers) → ⊥
+no_given None n q m k plan workers e = cc
+no_given (Some given) n q m k plan workers e = no_generation (limits_of (grain_of given) n q m) given k plan workers e
 
 pub generation_is_none : (words : List (List ℕ)) (k : ℕ) (plan : PlanNumbers) (workers : ℕ) → generation_asked words ≡ Ok (Optimise k plan workers) → ⊥
 unfolding generation_asked
@@ -141,7 +145,7 @@ generation_is_none (first ∷ []) k plan workers e = cc
 generation_is_none (first ∷ n ∷ []) k plan workers e = cc
 generation_is_none (first ∷ n ∷ q ∷ []) k plan workers e = cc
 generation_is_none (first ∷ n ∷ q ∷ m ∷ words) k plan workers e =
-    no_generation (limits_of (number_of n) (number_of q) (number_of m)) (options_from form.Generate no_options 4 words) k plan workers e
+    no_given (options_from form.Generate no_options 4 words) (number_of n) (number_of q) (number_of m) k plan workers e
 
 -- nor is tidying
 pub tidying_is_none : (words : List (List ℕ)) (k : ℕ) (plan : PlanNumbers) (workers : ℕ) → tidying_asked words ≡ Ok (Optimise k plan workers) → ⊥

@@ -47,6 +47,7 @@ option_named word =
     if bytes_eq word (codes "--workers") then Some option.Workers
     else if bytes_eq word (codes "--seed") then Some option.Seed
     else if bytes_eq word (codes "--report") then Some option.Report
+    else if bytes_eq word (codes "--grain") then Some option.Grain
     else if bytes_eq word (codes "--rules") then Some option.Rules
     else if bytes_eq word (codes "--rounds") then Some option.Rounds
     else if bytes_eq word (codes "--batch") then Some option.Batch
@@ -59,9 +60,11 @@ abbrev pub has_option : Form → OptionName → Bool
 has_option form.Generate option.Workers = true
 has_option form.Generate option.Seed = true
 has_option form.Generate option.Report = true
+has_option form.Generate option.Grain = true
 has_option form.Generate _ = false
 has_option form.Optimise option.Seed = false
 has_option form.Optimise option.Report = false
+has_option form.Optimise option.Grain = false
 has_option form.Optimise _ = true
 
 -- the option of this form that a word names
@@ -75,7 +78,7 @@ takes_value _ = true
 
 -- no option is given
 abbrev pub no_options : Options
-no_options = record { workers = None; seed = None; report = false; rules = None; rounds = None; batch = None; cap = None; slack = None }
+no_options = record { workers = None; seed = None; report = false; grain = None; rules = None; rounds = None; batch = None; cap = None; slack = None }
 
 -- the word that names a rule file is one of the first n
 abbrev pub IsFileWithin : ℕ → Options → Type 0
@@ -97,6 +100,7 @@ abbrev pub with_value : Options → OptionName → ℕ → List ℕ → Option O
 with_value given option.Workers k word = option_map (λ n. record given { workers = Some n }) (new_number given.workers word)
 with_value given option.Seed k word = option_map (λ n. record given { seed = Some n }) (new_number given.seed word)
 with_value given option.Report k word = None
+with_value given option.Grain k word = option_map (λ n. record given { grain = Some n }) (new_number given.grain word)
 with_value given option.Rules k word = option_map (λ r. record given { rules = Some r }) (new_file given.rules k word)
 with_value given option.Rounds k word = option_map (λ n. record given { rounds = Some n }) (new_number given.rounds word)
 with_value given option.Batch k word = option_map (λ n. record given { batch = Some n }) (new_number given.batch word)
@@ -127,6 +131,10 @@ workers_of given = unwrap_or given.workers 1
 -- the seed of the options, 0 where they don't say
 abbrev pub seed_of : Options → ℕ
 seed_of given = unwrap_or given.seed 0
+
+-- the grain of the options, 4 where they don't say
+abbrev pub grain_of : Options → ℕ
+grain_of given = unwrap_or given.grain 4
 
 -- the plan of the options: where they don't say, 16 rounds that take 8 circuits each, a queue of 100, and no slack
 abbrev pub plan_of : Options → PlanNumbers
@@ -209,10 +217,10 @@ optimisation rules given = unless_passed (optimisation_limit (plan_of given) (wo
 abbrev pub trial : ℕ → ℕ → ℕ → Result Command WordFault
 trial seed q g = unless_passed (trial_limit q g) (Trial seed q g)
 
--- the limits with these numbers, where all three are numbers
-abbrev pub limits_of : Option ℕ → Option ℕ → Option ℕ → Option Limits
-limits_of (Some n) (Some q) (Some m) = Some (record { n = n; q = q; m = m; grain = 4 })
-limits_of n q m = None
+-- the limits of this grain with these numbers, where all three are numbers
+abbrev pub limits_of : ℕ → Option ℕ → Option ℕ → Option ℕ → Option Limits
+limits_of grain (Some n) (Some q) (Some m) = Some (record { n = n; q = q; m = m; grain = grain })
+limits_of grain n q m = None
 
 -- the command that is made of what words say; where they say nothing, they are in no written form
 abbrev pub command_from : {A : Type 0} → (A → Result Command WordFault) → Option A → Result Command WordFault
@@ -222,7 +230,7 @@ command_from command (Some said) = command said
 -- the generation that words ask for: three numbers come after the first word, and then options
 unfoldable pub generation_asked : List (List ℕ) → Result Command WordFault
 generation_asked (first ∷ n ∷ q ∷ m ∷ words) =
-    command_from (λ b. command_from (generation b) (options_from form.Generate no_options 4 words)) (limits_of (number_of n) (number_of q) (number_of m))
+    command_from (λ given. command_from (λ b. generation b given) (limits_of (grain_of given) (number_of n) (number_of q) (number_of m))) (options_from form.Generate no_options 4 words)
 generation_asked words = Err Usage
 
 -- the optimisation that words ask for: options come after the first word, and one of them is the rule file

@@ -3,7 +3,7 @@ ghost use Rattle.std.specs.Prelude.{◌≡◌, ◌<◌, ◌≤◌, ℕ, [], leng
 ghost use Rattle.std.specs.Option.{option_map};
 ghost use Rattle.qz_circ.specs.Search.{PlanNumbers};
 ghost use Rattle.qz_search.specs.PlanFaults.{plan_refusal};
-ghost use Rattle.qz_top.specs.Words.{number_of, option_named, has_option, option_of, takes_value, no_options, IsFileWithin, new_number, new_file, with_value, without_value, options_from, workers_of, seed_of, plan_of};
+ghost use Rattle.qz_top.specs.Words.{number_of, option_named, has_option, option_of, takes_value, no_options, IsFileWithin, new_number, new_file, with_value, without_value, options_from, workers_of, seed_of, grain_of, plan_of};
 ghost use Rattle.qz_top.specs.Words.{which_of, which_of_plan, workers_limit, trial_limit, AreWorkers, IsTrialSize, IsLawfulCommand, unless_passed, generation, optimisation, trial, limits_of, generation_asked, optimisation_asked, tidying_asked, trial_asked, command_by, command_of};
 
 use qz_circ::{Bounds, LimitFault, MOST_GATES, MOST_QUBITS, Which};
@@ -65,6 +65,7 @@ pub(crate) enum OptionName {
     Workers,
     Seed,
     Report,
+    Grain,
     Rules,
     Rounds,
     Batch,
@@ -78,6 +79,7 @@ pub(crate) struct Options {
     pub(crate) workers: Option<u64>,
     pub(crate) seed: Option<u64>,
     pub(crate) report: bool,
+    pub(crate) grain: Option<u64>,
     pub(crate) rules: Option<usize>,
     pub(crate) rounds: Option<u64>,
     pub(crate) batch: Option<u64>,
@@ -126,6 +128,7 @@ fn option_named(word: &str) -> Option<OptionName>
         "--workers" => Some(OptionName::Workers),
         "--seed" => Some(OptionName::Seed),
         "--report" => Some(OptionName::Report),
+        "--grain" => Some(OptionName::Grain),
         "--rules" => Some(OptionName::Rules),
         "--rounds" => Some(OptionName::Rounds),
         "--batch" => Some(OptionName::Batch),
@@ -142,9 +145,12 @@ fn has_option(form: Form, name: OptionName) -> bool
     match form {
         Form::Generate => matches!(
             name,
-            OptionName::Workers | OptionName::Seed | OptionName::Report
+            OptionName::Workers | OptionName::Seed | OptionName::Report | OptionName::Grain
         ),
-        Form::Optimise => !matches!(name, OptionName::Seed | OptionName::Report),
+        Form::Optimise => !matches!(
+            name,
+            OptionName::Seed | OptionName::Report | OptionName::Grain
+        ),
     }
 }
 
@@ -196,6 +202,7 @@ impl Options {
             workers: None,
             seed: None,
             report: false,
+            grain: None,
             rules: None,
             rounds: None,
             batch: None,
@@ -219,6 +226,10 @@ impl Options {
                 ..self
             }),
             OptionName::Report => None,
+            OptionName::Grain => Some(Options {
+                grain: Some(new_number(self.grain, word)?),
+                ..self
+            }),
             OptionName::Rules => Some(Options {
                 rules: Some(new_file(self.rules, k, word)?),
                 ..self
@@ -268,6 +279,13 @@ impl Options {
         ensures { result ≡ seed_of self }
     {
         self.seed.unwrap_or(0)
+    }
+
+    // The grain.
+    fn grain(self) -> u64
+        ensures { result ≡ grain_of self }
+    {
+        self.grain.unwrap_or(4)
     }
 
     // The plan, or the first of its numbers that is refused.
@@ -388,10 +406,10 @@ fn unless_passed(limit: Option<Which>, command: Command) -> Result<Command, Word
 
 // The generation within these limits and with these options.
 fn generation(n: u64, q: u64, m: u64, given: Options) -> Result<Command, WordFault>
-    ensures command { result ≡ generation (record { n = n; q = q; m = m; grain = 4 }) given }
+    ensures command { result ≡ generation (record { n = n; q = q; m = m; grain = grain_of given }) given }
     ensures lawful { IfOk result IsLawfulCommand }
 {
-    match Bounds::new(n, q, m) {
+    match Bounds::with_grain(n, q, m, given.grain()) {
         Ok(bounds) => unless_passed(
             workers_limit(given.workers()),
             Command::Generate {
@@ -440,7 +458,7 @@ fn trial(seed: u64, qubits: u64, gates: u64) -> Result<Command, WordFault>
 
 // The numbers of these three words.
 fn three_numbers(n: &str, q: &str, m: &str) -> Option<(u64, u64, u64)>
-    ensures { limits_of (number_of n.now) (number_of q.now) (number_of m.now) ≡ option_map (λ t. record { n = t.0; q = t.1; m = t.2; grain = 4 }) result }
+    ensures { (grain : ℕ) → limits_of grain (number_of n.now) (number_of q.now) (number_of m.now) ≡ option_map (λ t. record { n = t.0; q = t.1; m = t.2; grain = grain }) result }
 {
     Some((number(n)?, number(q)?, number(m)?))
 }
@@ -454,10 +472,10 @@ fn generation_asked(words: &[String]) -> Result<Command, WordFault>
     let [_, n, q, m, ..] = words else {
         return Err(WordFault::Usage);
     };
-    let Some((n, q, m)) = three_numbers(n, q, m) else {
+    let Some(given) = options_from(Form::Generate, words, 4) else {
         return Err(WordFault::Usage);
     };
-    let Some(given) = options_from(Form::Generate, words, 4) else {
+    let Some((n, q, m)) = three_numbers(n, q, m) else {
         return Err(WordFault::Usage);
     };
     generation(n, q, m, given)
