@@ -69,11 +69,13 @@ pub(super) fn writes(rt: &impl Abort, alloc: Global, rows: &[(&str, &str)]) {
 fn writes_rules(rt: HostRuntime) {
     let no_gates = "quartz-rules 1\nbounds 0 1 0\nclasses 0\nend\n";
     let one_gate = "quartz-rules 1\nbounds 1 2 0\nclasses 0\nend\n";
+    let finer = "quartz-rules 2\nbounds 0 1 0 8\nclasses 0\nend\n";
     let rows = [
         ("generate 0 1 0", no_gates),
         ("generate 01 2 000", one_gate),
+        ("generate 0 1 0 --grain 8", finer),
         ("generate 2 1 0", two_gates()),
-        ("generate 2 1 0 --workers 2", two_gates()),
+        ("generate 2 1 0 --grain 4 --workers 2", two_gates()),
         ("generate 2 1 0 --seed 2 --workers 16", two_gates()),
         ("generate 2 1 0 --report", two_gates()),
         ("generate 2 1 0 --report --seed 1 --workers 2", two_gates()),
@@ -153,7 +155,12 @@ fn asks(rt: &impl Abort, alloc: Global, rows: &[(&str, Option<Command>)]) {
 
 // The generation of two gates on one qubit.
 fn generation(workers: u64, seed: u64, report: bool) -> Option<Command> {
-    let bounds = Bounds::new(2, 1, 0).ok()?;
+    generation_of(4, workers, seed, report)
+}
+
+// The same with constants of this grain.
+fn generation_of(grain: u64, workers: u64, seed: u64, report: bool) -> Option<Command> {
+    let bounds = Bounds::with_grain(2, 1, 0, grain).ok()?;
     Some(Command::Generate {
         bounds,
         workers,
@@ -177,11 +184,13 @@ fn optimisation(rules: usize, plan: [u64; 4], workers: u64) -> Option<Command> {
 fn reads_options(rt: HostRuntime) {
     let all = "generate 2 1 0 --workers 16 --seed 999999999999999999 --report";
     let padded = "generate 002 01 0 --report --seed 007 --workers 02";
+    let finer = "generate 2 1 0 --grain 16 --report --workers 3";
     let generations = [
         ("generate 2 1 0", generation(1, 0, false)),
         (all, generation(16, 999_999_999_999_999_999, true)),
         (padded, generation(2, 7, true)),
         ("generate 2 1 0 --seed 1", generation(1, 1, false)),
+        (finer, generation_of(16, 3, 0, true)),
         ("tidy", Some(Command::Tidy)),
     ];
     asks(&rt, rt.alloc(), &generations);
@@ -232,6 +241,9 @@ fn refuses_words(rt: HostRuntime) {
         ("generate 9 9 x", usage),
         ("generate 2 1 0 --seed 1 --seed 2", usage),
         ("generate 2 1 0 --report 1", usage),
+        ("generate 2 1 0 --grain", usage),
+        ("generate 2 1 0 --grain 8 --grain 8", usage),
+        ("optimise --rules r --grain 8", usage),
         ("tidy now", usage),
         ("optimise", usage),
     ];
@@ -332,6 +344,12 @@ fn tells_the_first_limit(rt: HostRuntime) {
         ("generate 7 4 4 --workers 0", Which::BoundsQubits),
         ("generate 7 1 4 --workers 17", Which::BoundsGates),
         ("generate 6 3 4 --workers 17", Which::BoundsParams),
+        ("generate 1 1 4 --grain 5", Which::BoundsParams),
+        ("generate 6 1 0 --grain 5 --workers 0", Which::BoundsGrain),
+        (
+            "generate 6 1 0 --grain 8 --workers 0",
+            Which::BoundsCircuits,
+        ),
         ("generate 5 2 2 --workers 0", Which::BoundsCircuits),
         ("generate 2 1 0 --workers 0", Which::Workers),
         ("generate 2 1 0 --workers 17", Which::Workers),
