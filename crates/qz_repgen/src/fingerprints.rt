@@ -63,13 +63,7 @@ impl CircuitValues {
     }
 
     // The values of the circuit with rank r. Where it has a last gate, goes to the circuit without that.
-    fn longer(
-        &mut self,
-        alloc: Global,
-        b: Bounds,
-        probe: &Probe,
-        r: u64,
-    ) -> Result<Values, Memory>
+    fn longer(&mut self, alloc: Global, b: Bounds, probe: &Probe, r: u64) -> Result<Values, Memory>
         requires listed { r < length (all_circuits b) }
         requires qubits { probe.now.q ≡ b.q }
         requires values { HoldsValues b probe.now self.old }
