@@ -25,7 +25,7 @@ fn assert_prints(rt: &impl Abort, q: u64, c: &[Op], prints: [u64; 2])
     assert!(rt; found == prints);
 }
 
-// The fingerprint of a circuit with one gate more, from what was made of the circuit.
+// The fingerprint of a circuit with one gate more, from the values of the circuit.
 fn print_with(seed: u64, q: u64, c: &[Op], op: Op) -> u64
     requires qubits { (1 ≤ q) × (q ≤ 3) }
     requires gates { IsOn q 3 c.now }
@@ -33,7 +33,7 @@ fn print_with(seed: u64, q: u64, c: &[Op], op: Op) -> u64
     requires parameters { HasBelow 3 op }
 {
     let probe = Probe::new(seed, q);
-    probe.finger_with(&probe.extensions(c), op)
+    probe.finger_with(&probe.values(c), op)
 }
 
 // Each kind of gate and of angle, and gates of all kinds on two qubits.

@@ -12,5 +12,3 @@ mod ProbeTables
 mod Powers
 mod Worths
 mod SumLemmas
-mod RowLemmas
-mod ExtensionLemmas

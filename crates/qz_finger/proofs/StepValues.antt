@@ -1,6 +1,6 @@
 -- What the ways through one gate more are worth is what the gate's step makes of the values before it.
 use Rattle.std.proofs.Common.{◌≡◌, ℕ, ◌+◌, ◌*◌, ◌%◌, ◌^◌, ◌<◌, Bool, true, false, List, [], ◌∷◌, ◌++◌, refl, sym, ap, ◌∙◌, arith}
-use Rattle.std.specs.Prelude.{◌+ℤ◌, slice_index, if◌then◌else◌}
+use Rattle.std.specs.Prelude.{◌+ℤ◌, if◌then◌else◌}
 use Rattle.qz_circ.specs.declared.circuit.Expr.{Expr}
 use Rattle.qz_circ.specs.declared.circuit.Op.{Op}
 use Rattle.qz_circ.specs.declared.circuit.Op.TheVariants.{H, X, Cx, Rz}
@@ -14,17 +14,19 @@ use Rattle.qz_circ.proofs.Totals.{AreProper-append, AreProper-products, count-ap
 use Rattle.qz_circ.proofs.ProperWays.{proper_paths}
 use Rattle.qz_circ.proofs.RuleGates.{as_gate, angle_proper, gate_is}
 use Rattle.qz_circ.proofs.PathCounts.{count_one_more}
-use Rattle.qz_finger.specs.Modulo.{modulus, minus_one}
-use Rattle.qz_finger.specs.Weights.{place_of, entries_on}
+use Rattle.qz_finger.specs.Modulo.{modulus, minus_one, sum_below}
+use Rattle.qz_finger.specs.Weights.{place_of}
 use Rattle.qz_finger.specs.Fingerprint.{Bases, value, value_of}
-use Rattle.qz_finger.specs.Actions.{acted, step_for, IsAfter}
-use Rattle.qz_finger.specs.Stands.{AreValues}
+use Rattle.qz_finger.specs.Actions.{acted, step_for, value_after}
+use Rattle.qz_finger.specs.Stands.{AreWeighed}
 use Rattle.qz_finger.proofs.Modular.{Same, same_by, same_add, same_mul}
 use Rattle.qz_finger.proofs.WayValues.{IsValue, value_append, value_turned, value_shifted}
 use Rattle.qz_finger.proofs.Bases.{value_at}
 use Rattle.qz_finger.proofs.Sixteenths.{sixteenth_angle, sixteenths_paths, value_sixteenth, value_of_sixteenths}
 use Rattle.qz_finger.proofs.Powers.{rest_twice}
-use Rattle.qz_finger.proofs.PlaceLemmas.{place_below, place_bit, flipped_place}
+use Rattle.qz_finger.proofs.PlaceLemmas.{place_bit, flipped_place}
+use Rattle.qz_finger.proofs.SumLemmas.{acted_sum}
+use Rattle.qz_finger.proofs.WeighedSums.{sum_congruent}
 
 -- ---- ways that count what an action makes of others
 
@@ -69,29 +71,36 @@ module _ (n r : ℕ) (v : Exponent → ℕ) (is : IsValue n r v) where
 -- ---- actions on numbers that are the same
 
 -- by each action
-acted_same : (q : ℕ) (u w : Expr → ℕ) (g : Op) (b c : Bool) (x y x' y' : ℕ) → ((e : Expr) → Same modulus (u e) (w e)) → Same modulus x x' → Same modulus y y' →
-    Same modulus (acted (step_for q u g).action b c x y) (acted (step_for q w g).action b c x' y')
-acted_same q u w (H t) b true x y x' y' worth first second = same_add modulus (minus_one * x) (minus_one * x') y y' (same_mul modulus minus_one minus_one x x' refl first) second
-acted_same q u w (H t) b false x y x' y' worth first second = same_add modulus x x' y y' first second
-acted_same q u w (X t) b c x y x' y' worth first second = second
-acted_same q u w (Cx s t) true c x y x' y' worth first second = second
-acted_same q u w (Cx s t) false c x y x' y' worth first second = first
-acted_same q u w (Rz t e) b true x y x' y' worth first second = same_mul modulus (u e) (w e) x x' (worth e) first
-acted_same q u w (Rz t e) b false x y x' y' worth first second = first
+acted_same : (u w : Expr → ℕ) (g : Op) (b c : Bool) (x y x' y' : ℕ) → ((e : Expr) → Same modulus (u e) (w e)) → Same modulus x x' → Same modulus y y' →
+    Same modulus (acted (step_for u g).action b c x y) (acted (step_for w g).action b c x' y')
+acted_same u w (H t) b true x y x' y' worth first second = same_add modulus (minus_one * x) (minus_one * x') y y' (same_mul modulus minus_one minus_one x x' refl first) second
+acted_same u w (H t) b false x y x' y' worth first second = same_add modulus x x' y y' first second
+acted_same u w (X t) b c x y x' y' worth first second = second
+acted_same u w (Cx s t) true c x y x' y' worth first second = second
+acted_same u w (Cx s t) false c x y x' y' worth first second = first
+acted_same u w (Rz t e) b true x y x' y' worth first second = same_mul modulus (u e) (w e) x x' (worth e) first
+acted_same u w (Rz t e) b false x y x' y' worth first second = first
 
--- the control of a step is that of the gate, above the column's qubits
-control_of : (q : ℕ) (u : Expr → ℕ) (g : Op) → (step_for q u g).control ≡ q + (as_gate g).control
-control_of q u (H t) = refl
-control_of q u (X t) = refl
-control_of q u (Cx c t) = refl
-control_of q u (Rz t e) = refl
+-- the control of a step is that of the gate
+control_of : (u : Expr → ℕ) (g : Op) → (step_for u g).control ≡ (as_gate g).control
+control_of u (H t) = refl
+control_of u (X t) = refl
+control_of u (Cx c t) = refl
+control_of u (Rz t e) = refl
 
 -- and so is the target
-target_of : (q : ℕ) (u : Expr → ℕ) (g : Op) → (step_for q u g).target ≡ q + (as_gate g).target
-target_of q u (H t) = refl
-target_of q u (X t) = refl
-target_of q u (Cx c t) = refl
-target_of q u (Rz t e) = refl
+target_of : (u : Expr → ℕ) (g : Op) → (step_for u g).target ≡ (as_gate g).target
+target_of u (H t) = refl
+target_of u (X t) = refl
+target_of u (Cx c t) = refl
+target_of u (Rz t e) = refl
+
+-- the control is one of the qubits, too
+control_within : (q : ℕ) (g : Op) → ActsBelow q g → (as_gate g).control < q
+control_within q (H t) acts = acts
+control_within q (X t) acts = acts
+control_within q (Cx c t) acts = acts.0
+control_within q (Rz t e) acts = acts
 
 -- ---- one gate more
 
@@ -102,7 +111,7 @@ module _ (r z : ℕ) (b : Bases) (is : IsValue minus_one r (value_at z b)) (root
 
   -- through one gate more
   worth_more : (q : ℕ) (c : Circuit) (g : Op) (i j : ℕ) → ActsBelow q g → i < 2 ^ q →
-      Same modulus (worth q (c ++ g ∷ []) i j) (acted (step_for q (λ e. value_at z b (angle_exponent e)) g).action (has_bit (as_gate g).control i) (has_bit (as_gate g).target i) (worth q c i j) (worth q c (flipped_state (as_gate g).target i) j))
+      Same modulus (worth q (c ++ g ∷ []) i j) (acted (step_for (λ e. value_at z b (angle_exponent e)) g).action (has_bit (as_gate g).control i) (has_bit (as_gate g).target i) (worth q c i j) (worth q c (flipped_state (as_gate g).target i) j))
   worth_more q c (H t) i j acts less =
       after_mix minus_one r (value_at z b) is (has_bit t i) (paths q (c ++ H t ∷ []) i j) (paths q c i j) (paths q c (flipped_state t i) j)
       (proper_paths q (c ++ H t ∷ []) i j) (proper_paths q c i j) (proper_paths q c (flipped_state t i) j) (λ e he. count_one_more q c (H t) i j e acts less he)
@@ -116,27 +125,38 @@ module _ (r z : ℕ) (b : Bases) (is : IsValue minus_one r (value_at z b)) (root
       after_turn minus_one r (value_at z b) is (has_bit t i) (angle_exponent e) (paths q (c ++ Rz t e ∷ []) i j) (paths q c i j) (angle_proper e)
       (proper_paths q (c ++ Rz t e ∷ []) i j) (proper_paths q c i j) (λ d hd. count_one_more q c (Rz t e) i j d acts less hd)
 
-  -- the values by the list after the step are those of the circuit with the gate
-  pub values_more : (q : ℕ) (c : Circuit) (g : Op) (old new : List ℕ) → ActsBelow q g → AreValues q (value b) c old →
-      IsAfter (step_for q (λ e. value b (angle_exponent e) % modulus) g) (entries_on q) old new → AreValues q (value b) (c ++ g ∷ []) new
-  values_more q c g old new acts values after i j row column =
+  -- weights times what the ways through a circuit are worth
+  weighed_worth : (q : ℕ) (w : ℕ → ℕ) (c : Circuit) (l : ℕ) → Same modulus (sum_below (λ j. w j * value_of minus_one (value b) (paths q c l j)) (2 ^ q)) (sum_below (λ j. w j * worth q c l j) (2 ^ q))
+  weighed_worth q w c l =
+      sum_congruent modulus (λ j. w j * value_of minus_one (value b) (paths q c l j)) (λ j. w j * worth q c l j) (2 ^ q)
+      (λ j column. same_mul modulus (w j) (w j) (value_of minus_one (value b) (paths q c l j)) (worth q c l j) refl (value_of_sixteenths minus_one z b (paths q c l j) root (sixteenths_paths q c l j)))
+
+  -- what the step makes of weighed values are those of the circuit with the gate
+  pub weighed_more : (q : ℕ) (w : ℕ → ℕ → ℕ) (c : Circuit) (g : Op) (f : ℕ → ℕ) → ActsBelow q g → AreWeighed q (value b) w c f →
+      AreWeighed q (value b) w (c ++ g ∷ []) (value_after (step_for (λ e. value b (angle_exponent e) % modulus) g) f)
+  weighed_more q w c g f acts values i l row other =
       let u = λ (e : Expr). value b (angle_exponent e) % modulus in
-      let w = λ (e : Expr). value_at z b (angle_exponent e) in
-      let action = (step_for q u g).action in
+      let x = λ (e : Expr). value_at z b (angle_exponent e) in
+      let action = (step_for u g).action in
       let control = (as_gate g).control in
       let target = (as_gate g).target in
-      let k = place_of q i j in
-      let over = flipped_state target i in
-      let over_below : over < 2 ^ q = flip_below q target i (gate_is q g acts).within row in
+      let controlled = control_within q g acts in
+      let targeted = (gate_is q g acts).within in
+      let k = place_of q i l in
+      let over = flipped_state target l in
+      let over_below : over < 2 ^ q = flip_below q target l targeted other in
       let worths = λ (e : Expr). rest_twice modulus (value b (angle_exponent e)) ∙ value_sixteenth modulus z b (angle_exponent e) root (sixteenth_angle e) in
-      let here = value_of minus_one (value b) (paths q c i j) in
-      let across = value_of minus_one (value b) (paths q c over j) in
-      let here_same = rest_twice modulus here ∙ value_of_sixteenths minus_one z b (paths q c i j) root (sixteenths_paths q c i j) in
-      let across_same = rest_twice modulus across ∙ value_of_sixteenths minus_one z b (paths q c over j) root (sixteenths_paths q c over j) in
-      after k (place_below q i j row column) ∙
-      (λ d. acted action (has_bit (control_of q u g d) k) (has_bit (target_of q u g d) k) (slice_index old k) (slice_index old (flipped_state (target_of q u g d) k)) % modulus) ∙
-      (λ d. acted action (place_bit q control i j column d) (place_bit q target i j column d) (values i j row column d) (slice_index old (flipped_place q target i j column d)) % modulus) ∙
-      (λ d. acted action (has_bit control i) (has_bit target i) (here % modulus) (values over j over_below column d) % modulus) ∙
-      acted_same q u w g (has_bit control i) (has_bit target i) (here % modulus) (across % modulus) (worth q c i j) (worth q c over j) worths here_same across_same ∙
-      sym (worth_more q c g i j acts row) ∙
-      sym (value_of_sixteenths minus_one z b (paths q (c ++ g ∷ []) i j) root (sixteenths_paths q (c ++ g ∷ []) i j))
+      let here = sum_below (λ j. w i j * value_of minus_one (value b) (paths q c l j)) (2 ^ q) in
+      let across = sum_below (λ j. w i j * value_of minus_one (value b) (paths q c over j)) (2 ^ q) in
+      let here_worth = sum_below (λ j. w i j * worth q c l j) (2 ^ q) in
+      let across_worth = sum_below (λ j. w i j * worth q c over j) (2 ^ q) in
+      let made = λ (j : ℕ). acted (step_for x g).action (has_bit control l) (has_bit target l) (worth q c l j) (worth q c over j) in
+      (λ d. acted action (has_bit (control_of u g d) k) (has_bit (target_of u g d) k) (f k) (f (flipped_state (target_of u g d) k)) % modulus) ∙
+      (λ d. acted action (place_bit q control i l controlled d) (place_bit q target i l targeted d) (values i l row other d) (f (flipped_place q target i l targeted d)) % modulus) ∙
+      (λ d. acted action (has_bit control l) (has_bit target l) (here % modulus) (values i over row over_below d) % modulus) ∙
+      acted_same u x g (has_bit control l) (has_bit target l) (here % modulus) (across % modulus) here_worth across_worth worths
+      (rest_twice modulus here ∙ weighed_worth q (w i) c l) (rest_twice modulus across ∙ weighed_worth q (w i) c over) ∙
+      ap (λ s. s % modulus) (sym (acted_sum (step_for x g).action (has_bit control l) (has_bit target l) (w i) (worth q c l) (worth q c over) (2 ^ q))) ∙
+      sum_congruent modulus (λ j. w i j * made j) (λ j. w i j * worth q (c ++ g ∷ []) l j) (2 ^ q)
+      (λ j column. same_mul modulus (w i j) (w i j) (made j) (worth q (c ++ g ∷ []) l j) refl (sym (worth_more q c g l j acts other))) ∙
+      sym (weighed_worth q (w i) (c ++ g ∷ []) l)

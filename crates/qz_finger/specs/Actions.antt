@@ -1,5 +1,5 @@
--- What a gate makes of values of entries. The place of row i and column j is i·2^q + j, a state of twice as many qubits, of which
--- the upper half are those of the row.
+-- What a gate makes of weighed values of rows. The place of rows i and l is i·2^q + l, a state of twice as many qubits, of which
+-- the lower half are those of the row whose values are weighed.
 use Rattle.std.specs.Prelude.{◌≡◌, ℕ, ◌+◌, ◌*◌, ◌%◌, ◌<◌, Bool, if◌then◌else◌, List, slice_index}
 use Rattle.qz_circ.specs.declared.circuit.Expr.{Expr}
 use Rattle.qz_circ.specs.declared.circuit.Op.{Op}
@@ -21,17 +21,17 @@ acted (Turn u) b c x y = if c then u * x else x
 abbrev pub AreBelow : List ℕ → Type 0
 AreBelow xs = (k : ℕ) → slice_index xs k < modulus
 
--- what a step makes of place k
-abbrev pub value_after : Step → List ℕ → ℕ → ℕ
-value_after s old k = acted s.action (has_bit s.control k) (has_bit s.target k) (slice_index old k) (slice_index old (flipped_state s.target k)) % modulus
+-- what a step makes of place k, where f says the value of each place
+abbrev pub value_after : Step → (ℕ → ℕ) → ℕ → ℕ
+value_after s f k = acted s.action (has_bit s.control k) (has_bit s.target k) (f k) (f (flipped_state s.target k)) % modulus
 
 -- new are the values after the step, at the places below size
 abbrev pub IsAfter : Step → ℕ → List ℕ → List ℕ → Type 0
-IsAfter s size old new = (k : ℕ) → k < size → slice_index new k ≡ value_after s old k
+IsAfter s size old new = (k : ℕ) → k < size → slice_index new k ≡ value_after s (slice_index old) k
 
--- the step of a gate of a rule on q qubits, where u says what angles are worth
-abbrev pub step_for : ℕ → (Expr → ℕ) → Op → Step
-step_for q u (H t) = record { action = Mix; control = q + t; target = q + t }
-step_for q u (X t) = record { action = Flip; control = q + t; target = q + t }
-step_for q u (Cx c t) = record { action = FlipWhere; control = q + c; target = q + t }
-step_for q u (Rz t e) = record { action = Turn (u e); control = q + t; target = q + t }
+-- the step of a gate of a rule, where u says what angles are worth
+abbrev pub step_for : (Expr → ℕ) → Op → Step
+step_for u (H t) = record { action = Mix; control = t; target = t }
+step_for u (X t) = record { action = Flip; control = t; target = t }
+step_for u (Cx c t) = record { action = FlipWhere; control = c; target = t }
+step_for u (Rz t e) = record { action = Turn (u e); control = t; target = t }

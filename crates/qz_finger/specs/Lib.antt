@@ -4,5 +4,3 @@ pub mod Fingerprint
 pub mod Actions
 pub mod Stands
 pub mod Tables
-pub mod Rows
-pub mod Sums

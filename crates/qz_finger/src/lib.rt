@@ -3,18 +3,14 @@
 #![tactic(auto)]
 
 mod actions;
-mod extensions;
 mod fill;
 pub mod laws;
 mod modulo;
 mod probe;
-mod rows;
-mod sums;
 mod tables;
+mod trace;
 mod values;
-mod weigh;
 mod words;
 
-pub use extensions::Extensions;
 pub use probe::Probe;
 pub use values::Values;

@@ -3,15 +3,12 @@ ghost use Rattle.std.specs.Prelude.{◌≡◌, ◌≤◌, [], ◌∷◌, ◌++�
 ghost use Rattle.qz_circ.specs.Circuit.{Circuit, ActsBelow, HasBelow, IsOn};
 ghost use Rattle.qz_finger.specs.Fingerprint.{ProbeParts, fingerprint};
 ghost use Rattle.qz_finger.specs.Stands.{StandsFor};
-ghost use Rattle.qz_finger.specs.Sums.{Extends};
 
 use crate::actions::{after, step_of};
-use crate::extensions::Extensions;
 use crate::modulo::multiply;
-use crate::sums::{all_sums, sum_with};
 use crate::tables::{Tables, powers, raised_to};
-use crate::values::{Values, halved, identity};
-use crate::weigh::weigh;
+use crate::trace::{trace, trace_after};
+use crate::values::{Values, halved};
 use crate::words::{parameters, weights};
 use qz_circ::{Op, entries_on};
 use qz_random::generator;
@@ -105,21 +102,21 @@ impl Probe {
         ensures { StandsFor self.now [] result }
     {
         Values {
-            values: identity(self.q),
-            inverses: identity(self.q),
+            values: self.values.weights,
+            inverses: self.inverses.weights,
             scale: 1,
         }
     }
 
-    // The values after one more gate.
-    fn with_gate(&self, values: &Values, op: Op) -> Values
+    /// The values of a circuit that is one with known values and this gate at its end. The gate is as `finger` asks.
+    pub fn with_gate(&self, values: &Values, op: Op) -> Values
         requires gate { ActsBelow self.now.q op }
         requires parameters { HasBelow 3 op }
         ensures { (c : Circuit) → StandsFor self.now c values.now → StandsFor self.now (c ++ op ∷ []) result }
     {
         let size = entries_on(self.q);
-        let step = step_of(&self.values, self.q, op);
-        let inverse_step = step_of(&self.inverses, self.q, op);
+        let step = step_of(&self.values, op);
+        let inverse_step = step_of(&self.inverses, op);
         Values {
             values: after(step, size, &values.values),
             inverses: after(inverse_step, size, &values.inverses),
@@ -152,9 +149,8 @@ impl Probe {
     fn finger_of(&self, values: &Values) -> u64
         ensures { (c : Circuit) → StandsFor self.now c values.now → result ≡ fingerprint self.now.seed self.now.q c }
     {
-        let size = entries_on(self.q);
-        let first = weigh(&self.values.weights, 0, &values.values, 0, size);
-        let second = weigh(&self.inverses.weights, 0, &values.inverses, 0, size);
+        let first = trace(self.q, &values.values);
+        let second = trace(self.q, &values.inverses);
         multiply(multiply(first, second), values.scale)
     }
 
@@ -167,43 +163,17 @@ impl Probe {
         self.finger_of(&self.values(c))
     }
 
-    // What the fingerprints of the circuit that the values stand for, with one gate more, are made of.
-    fn extensions_of(&self, values: &Values) -> Extensions
-        ensures { (c : Circuit) → StandsFor self.now c values.now → Extends self.now c result }
-    {
-        Extensions {
-            values: all_sums(&self.values.weights, &values.values, self.q),
-            inverses: all_sums(&self.inverses.weights, &values.inverses, self.q),
-            scale: values.scale,
-        }
-    }
-
-    /// What the fingerprints of a circuit with one gate more are made of. Its gates are as `finger` asks.
-    pub fn extensions(&self, c: &[Op]) -> Extensions
-        requires { IsOn self.now.q 3 c.now }
-        ensures { Extends self.now c.now result }
-    {
-        self.extensions_of(&self.values(c))
-    }
-
-    /// The same of a circuit that is one with known values and this gate at its end. The gate is as `finger` asks.
-    pub fn extensions_with(&self, values: &Values, op: Op) -> Extensions
+    /// The fingerprint of a circuit that is one with known values and this gate at its end, without the values of that circuit.
+    /// The gate is as `finger` asks.
+    pub fn finger_with(&self, values: &Values, op: Op) -> u64
         requires gate { ActsBelow self.now.q op }
         requires parameters { HasBelow 3 op }
-        ensures { (c : Circuit) → StandsFor self.now c values.now → Extends self.now (c ++ op ∷ []) result }
+        ensures { (c : Circuit) → StandsFor self.now c values.now → result ≡ fingerprint self.now.seed self.now.q (c ++ op ∷ []) }
     {
-        self.extensions_of(&self.with_gate(values, op))
-    }
-
-    /// The fingerprint of the circuit with one gate more at its end, from what this probe made of the circuit. The gate is as
-    /// `finger` asks.
-    pub fn finger_with(&self, extensions: &Extensions, op: Op) -> u64
-        requires gate { ActsBelow self.now.q op }
-        requires parameters { HasBelow 3 op }
-        ensures { (c : Circuit) → Extends self.now c extensions.now → result ≡ fingerprint self.now.seed self.now.q (c ++ op ∷ []) }
-    {
-        let first = sum_with(&extensions.values, &self.values, self.q, op);
-        let second = sum_with(&extensions.inverses, &self.inverses, self.q, op);
-        multiply(multiply(first, second), halved(extensions.scale, op))
+        let step = step_of(&self.values, op);
+        let inverse_step = step_of(&self.inverses, op);
+        let first = trace_after(step, self.q, &values.values);
+        let second = trace_after(inverse_step, self.q, &values.inverses);
+        multiply(multiply(first, second), halved(values.scale, op))
     }
 }

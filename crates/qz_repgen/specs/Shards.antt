@@ -4,9 +4,8 @@ use Rattle.qz_circ.specs.Circuit.{Limits, below}
 use Rattle.qz_circ.specs.Order.{all_circuits, circuit_at}
 use Rattle.qz_finger.specs.Fingerprint.{ProbeParts}
 use Rattle.qz_finger.specs.Stands.{StandsFor}
-use Rattle.qz_finger.specs.Sums.{Extends}
 use Rattle.qz_shard.specs.Shards.{ShardParts, print_at, home_of}
-use Rattle.qz_repgen.specs.declared.fingerprints.CircuitExtensions.{CircuitExtensions}
+use Rattle.qz_repgen.specs.declared.fingerprints.Front.{Front}
 use Rattle.qz_repgen.specs.declared.fingerprints.CircuitValues.{CircuitValues}
 use Rattle.qz_repgen.specs.Journals.{AreAtHome}
 
@@ -59,11 +58,10 @@ pub record HoldsValues (b : Limits) (probe : ProbeParts) (circuit : CircuitValue
   pub listed : circuit.rank < length (all_circuits b)
   pub stands : StandsFor probe (circuit_at b circuit.rank) circuit.values
 
--- what fingerprints are made of is that of the circuit with this rank, and the shorter circuit has its values
-pub record HoldsExtensions (b : Limits) (probe : ProbeParts) (circuit : CircuitExtensions) : Type 0 where
-  pub listed : circuit.rank < length (all_circuits b)
-  pub extends : Extends probe (circuit_at b circuit.rank) circuit.extensions
-  pub shorter : HoldsValues b probe circuit.shorter
+-- both circuits have their values
+pub record HoldsFront (b : Limits) (probe : ProbeParts) (front : Front) : Type 0 where
+  pub circuit : HoldsValues b probe front.circuit
+  pub shorter : HoldsValues b probe front.shorter
 
 -- what a contract sees of what makes fingerprints: the bounds of the circuits, and the probe
 pub record FingerprintsParts : Type 0 where
@@ -71,6 +69,6 @@ pub record FingerprintsParts : Type 0 where
   pub probe : ProbeParts
 
 -- the probe is for the qubits of the limits, and the front is a circuit
-pub record MakesFingerprints (b : Limits) (probe : ProbeParts) (circuit : CircuitExtensions) : Type 0 where
+pub record MakesFingerprints (b : Limits) (probe : ProbeParts) (circuit : Front) : Type 0 where
   pub qubits : probe.q ≡ b.q
-  pub front : HoldsExtensions b probe circuit
+  pub front : HoldsFront b probe circuit

@@ -3,12 +3,12 @@ ghost use Rattle.std.specs.Prelude.{◌≡◌, ◌<◌, [], ◌∷◌, ◌++◌,
 ghost use Rattle.qz_circ.specs.Circuit.{ActsBelow, HasBelow};
 ghost use Rattle.qz_circ.specs.Classes.{without_last};
 ghost use Rattle.qz_circ.specs.Order.{all_circuits, circuit_at};
-ghost use Rattle.qz_finger.specs.Sums.{Extends};
-ghost use Rattle.qz_repgen.specs.Shards.{HoldsValues, HoldsExtensions};
+ghost use Rattle.qz_finger.specs.Stands.{StandsFor};
+ghost use Rattle.qz_repgen.specs.Shards.{HoldsValues, HoldsFront};
 ghost use Rattle.qz_shard.specs.Shards.{print_at};
 
 use qz_circ::{Bounds, Memory, Op, drop_last_rank, op_of, unrank};
-use qz_finger::{Extensions, Probe, Values};
+use qz_finger::{Probe, Values};
 use std::alloc::Global;
 use std::marker::Model;
 
@@ -62,47 +62,37 @@ impl CircuitValues {
         Ok(())
     }
 
-    // What the fingerprints of the circuit with rank r and one gate more are made of. Where it has a last gate, goes to the circuit
-    // without that.
-    fn extensions(
-        &mut self,
-        alloc: Global,
-        b: Bounds,
-        probe: &Probe,
-        r: u64,
-    ) -> Result<Extensions, Memory>
+    // The values of the circuit with rank r. Where it has a last gate, goes to the circuit without that.
+    fn longer(&mut self, alloc: Global, b: Bounds, probe: &Probe, r: u64) -> Result<Values, Memory>
         requires listed { r < length (all_circuits b) }
         requires qubits { probe.now.q ≡ b.q }
         requires values { HoldsValues b probe.now self.old }
-        ensures extends { IfOk result (Extends probe.now (circuit_at b r)) }
+        ensures stands { IfOk result (StandsFor probe.now (circuit_at b r)) }
         ensures values { HoldsValues b probe.now self.new }
     {
         if r == 0 {
-            return Ok(probe.extensions(&[]));
+            return Ok(probe.values(&[]));
         }
         self.go_to(alloc, b, probe, drop_last_rank(r, b))?;
-        Ok(probe.extensions_with(&self.values, last_gate(b, r)))
+        Ok(probe.with_gate(&self.values, last_gate(b, r)))
     }
 }
 
-// A circuit, by its rank, what the fingerprints of it with one gate more are made of, and the values of a shorter circuit. The
-// next circuit mostly is that shorter one with another gate.
+// A circuit, and a shorter one. The next circuit mostly is that shorter one with another gate.
 #[derive(Drop)]
-struct CircuitExtensions {
-    rank: u64,
-    extensions: Extensions,
+struct Front {
+    circuit: CircuitValues,
     shorter: CircuitValues,
 }
 
-impl CircuitExtensions {
+impl Front {
     // The empty circuit.
-    fn new(b: Bounds, probe: &Probe) -> CircuitExtensions
+    fn new(b: Bounds, probe: &Probe) -> Front
         requires qubits { probe.now.q ≡ b.q }
-        ensures { HoldsExtensions b probe.now result }
+        ensures { HoldsFront b probe.now result }
     {
-        CircuitExtensions {
-            rank: 0,
-            extensions: probe.extensions(&[]),
+        Front {
+            circuit: CircuitValues::new(b, probe),
             shorter: CircuitValues::new(b, probe),
         }
     }
@@ -111,13 +101,13 @@ impl CircuitExtensions {
     fn go_to(&mut self, alloc: Global, b: Bounds, probe: &Probe, rank: u64) -> Result<(), Memory>
         requires listed { rank < length (all_circuits b) }
         requires qubits { probe.now.q ≡ b.q }
-        requires extensions { HoldsExtensions b probe.now self.old }
-        ensures rank { OnOk result (self.new.rank ≡ rank) }
-        ensures extensions { HoldsExtensions b probe.now self.new }
+        requires front { HoldsFront b probe.now self.old }
+        ensures rank { OnOk result (self.new.circuit.rank ≡ rank) }
+        ensures front { HoldsFront b probe.now self.new }
     {
-        if self.rank != rank {
-            self.extensions = self.shorter.extensions(alloc, b, probe, rank)?;
-            self.rank = rank;
+        if self.circuit.rank != rank {
+            let values = self.shorter.longer(alloc, b, probe, rank)?;
+            self.circuit = CircuitValues { rank, values };
         }
         Ok(())
     }
@@ -127,11 +117,11 @@ impl CircuitExtensions {
         requires some { 0 < r }
         requires listed { r < length (all_circuits b) }
         requires qubits { probe.now.q ≡ b.q }
-        requires extensions { HoldsExtensions b probe.now self.now }
-        requires last { circuit_at b self.now.rank ≡ without_last (circuit_at b r) }
+        requires front { HoldsFront b probe.now self.now }
+        requires last { circuit_at b self.now.circuit.rank ≡ without_last (circuit_at b r) }
         ensures { result ≡ print_at b probe.now.seed r }
     {
-        probe.finger_with(&self.extensions, last_gate(b, r))
+        probe.finger_with(&self.circuit.values, last_gate(b, r))
     }
 }
 
@@ -142,7 +132,7 @@ pub struct Fingerprints {
     alloc: Global,
     bounds: Bounds,
     probe: Probe,
-    front: CircuitExtensions,
+    front: Front,
 }
 
 impl Model for Fingerprints {
@@ -165,7 +155,7 @@ impl Fingerprints {
             alloc,
             bounds: b,
             probe,
-            front: CircuitExtensions::new(b, &probe),
+            front: Front::new(b, &probe),
         }
     }
 
