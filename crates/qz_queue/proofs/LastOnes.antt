@@ -16,7 +16,7 @@ use Rattle.qz_queue.proofs.Costs.{count_all}
 use Rattle.qz_queue.proofs.Fronts.{slice_at}
 
 -- what comes after the last one comes after all
-all_before ws : (ws : List ℕ) (cs : List ProgramCircuit) (d k : ProgramCircuit) → Strict (program_cmp ws) cs → program_cmp ws (get_or cs (length cs - 1) []) d ≡ Less → Has cs k → program_cmp ws k d ≡ Less
+all_before : (ws : List ℕ) (cs : List ProgramCircuit) (d k : ProgramCircuit) → Strict (program_cmp ws) cs → program_cmp ws (get_or cs (length cs - 1) []) d ≡ Less → Has cs k → program_cmp ws k d ≡ Less
 all_before ws [] d k s h g = absurd g
 all_before ws (c ∷ []) d k s h (inl e) =
     let none : length (c ∷ []) - 1 ≡ 0 = omega arith in

@@ -4,7 +4,7 @@ use Rattle.std.specs.declared.cmp.Ordering.{Ordering}
 use Rattle.std.specs.Ordering.{is_eq, is_lt, eq_by_cmp, ordering_reverse}
 use Rattle.std.specs.List.{insert, list_any}
 use Rattle.std.specs.BTreeSet.{insert_key}
-use Rattle.std.proofs.lemmas.List.{take_all, length-map, take-map, take_min, length-drop}
+use Rattle.std.proofs.lemmas.List.{take_all, length-map, length-append, length-take, take-map, take_min, length-drop}
 use Rattle.std.proofs.lemmas.List.Sums.{count_by-le-length}
 use Rattle.std.proofs.lemmas.Map.Views.{list_any-from_Contains, Contains-from_any}
 use Rattle.std.proofs.lemmas.Bool.{eqb-true, eq-eqb}
@@ -12,7 +12,9 @@ use Rattle.std.proofs.lemmas.Cmp.{eq_by_cmp_equiv}
 use Rattle.qz_circ.specs.ProgramCircuits.{ProgramCircuit, AreWeights, ones, cost, program_cmp}
 use Rattle.qz_circ.specs.Queue.{QueueList, IsRefused, QueueStep, after_steps, given, different, first_cap, firsts}
 use Rattle.qz_circ.specs.Queue.QueueStep.{Offer, Merge}
+use Rattle.qz_circ.specs.declared.circuit.Inst.{Inst}
 use Rattle.qz_circ.specs.Search.{is_among}
+use Rattle.qz_circ.specs.Vectors.{lists_of}
 use Rattle.qz_circ.proofs.ProgramOrder.{program_cmp_total, program_cmp_exact, same_test, equal_is}
 use Rattle.qz_queue.specs.declared.priced.Priced.{Priced}
 use Rattle.qz_queue.specs.Circuits.{circuits_of, ArePriced, AreOrdered, place_of}
@@ -99,7 +101,7 @@ priced_drop ws (suc n) (v ∷ vs) h = priced_drop ws n vs h.1
 
 priced_insert : (ws : List ℕ) (i : ℕ) (vs : List Priced) (v : Priced) → v.price ≡ cost ws v.gates.items → ArePriced ws vs → ArePriced ws (insert vs i v)
 priced_insert ws zero vs v e h = (e, h)
-priced_insert ws (suc i) [] v e h = h
+priced_insert ws (suc i) [] v e h = (e, tt)
 priced_insert ws (suc i) (u ∷ us) v e h = (h.0, priced_insert ws i us v e h.1)
 
 priced_take : (ws : List ℕ) (n : ℕ) (vs : List Priced) → ArePriced ws vs → ArePriced ws (take n vs)
@@ -122,6 +124,11 @@ priced_same ws (v ∷ vs) (u ∷ us) h e f =
     let rest : circuits_of us ≡ circuits_of vs = cc in
     let prices : map (λ p. p.price) us ≡ map (λ p. p.price) vs = cc in
     (price ∙ h.0 ∙ ap (cost ws) (sym gates), priced_same ws vs us h.1 rest prices)
+
+-- where some are left to move, there is room
+pub room_left : {A : Type 0} (taken : List (Vec Inst A)) (ps rest all : List Priced) (p : Priced) (n : ℕ) → lists_of taken ++ circuits_of ps ≡ circuits_of (take n all) → ps ≡ p ∷ rest → length taken < n
+room_left taken ps rest all p n e f =
+    omega (arith, ap length e, ap length f, length-append (lists_of taken) (circuits_of ps), length-map taken (λ v. v.items), length-map ps (λ v. v.gates.items), length-map (take n all) (λ v. v.gates.items), length-take n all)
 
 -- one of them
 pub price_at : (ws : List ℕ) (vs : List Priced) (i : ℕ) (v : Priced) → ArePriced ws vs → i < length vs → v ≡ get_or vs i v → v.price ≡ cost ws v.gates.items
