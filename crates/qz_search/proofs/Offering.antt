@@ -36,6 +36,10 @@ pub record IsOffering (q old : QueueList) (rest all : List ProgramCircuit) : Typ
   pub lawful : IsQueue q
   pub same : offered_to q rest ≡ offered_to old all
 
+-- it still has its weights
+pub offering_weights : (q old : QueueList) (rest all : List ProgramCircuit) → IsOffering q old rest all → q.weights ≡ old.weights
+offering_weights q old rest all h = ap (λ s. s.weights) h.same
+
 pub offering_start : (q : QueueList) (all : List ProgramCircuit) → IsQueue q → IsOffering q q all all
 offering_start q all h = record { lawful = h; same = refl }
 

@@ -3,7 +3,7 @@ ghost use Rattle.std.specs.Prelude.{◌≡◌, ◌≤◌, [], ◌∷◌, List, l
 ghost use Rattle.std.specs.List.{AllByRecursion, filter};
 ghost use Rattle.qz_circ.specs.Circuit.{IsOn};
 ghost use Rattle.qz_circ.specs.Places.{places};
-ghost use Rattle.qz_circ.specs.ProgramCircuits.{ProgramCircuit, IsProgramGate, AreWeights, cost};
+ghost use Rattle.qz_circ.specs.ProgramCircuits.{ProgramCircuit, IsProgramGate, cost};
 ghost use Rattle.qz_circ.specs.Queue.{IsQueue};
 ghost use Rattle.qz_circ.specs.Replacement.{replaced, children_by};
 ghost use Rattle.qz_match.specs.Neighbours.{AreNeighboursOf};
@@ -61,16 +61,16 @@ fn new_length(c: &[Inst], rule: &Rule, place: &Place) -> u64
 }
 
 // What a circuit costs after one step by a rule.
-fn new_cost(c: &Linked, rule: &Rule, place: &Place, weights: [u8; 4]) -> u64
+fn new_cost(c: &Linked, rule: &Rule, place: &Place, queue: &Queue) -> u64
     requires short { length c.now.gates.now ≤ 20004 }
     requires few { length rule.now.right.now ≤ 6 }
     requires place { Contains (places rule.now.left.now rule.now.right.now c.now.gates.now) place.now }
-    requires weights { AreWeights weights }
-    requires cost { c.now.cost ≡ cost weights c.now.gates.now }
-    requires left { rule.now.cost ≡ rule_cost weights rule.now.left.now }
-    ensures { result ≡ cost weights (replaced c.now.gates.now rule.now.right.now place.now) }
+    requires lawful { IsQueue queue.now }
+    requires cost { c.now.cost ≡ cost queue.now.weights c.now.gates.now }
+    requires left { rule.now.cost ≡ rule_cost queue.now.weights rule.now.left.now }
+    ensures { result ≡ cost queue.now.weights (replaced c.now.gates.now rule.now.right.now place.now) }
 {
-    c.cost + instance_cost(rule.right, &place.binding(), weights) - rule.cost
+    c.cost + instance_cost(rule.right, &place.binding(), queue.weights()) - rule.cost
 }
 
 // Whether the bar tells that the circuit of this cost after a step at a place would not change the queue.
@@ -116,7 +116,7 @@ fn offer_at(
     ensures offered { OnOk result (queue.new ≡ offered_to queue.old (filter (is_new queue.old.weights test.now.seen test.now.most) (replaced c.now.gates.now rule.now.right.now place.now ∷ []))) }
     ensures bar { OnOk result (IfSome bar.new (IsBar queue.new c.now.gates.now)) }
 {
-    let n = new_cost(c, rule, place, queue.weights());
+    let n = new_cost(c, rule, place, queue);
     if is_lost(queue, test.most, n) {
         return Ok(());
     }
