@@ -7,12 +7,13 @@ use Rattle.std.specs.Str.{bytes_eq}
 use Rattle.qz_circ.specs.declared.fault.LimitFault.{LimitFault}
 use Rattle.qz_circ.specs.declared.fault.LimitFault.TheVariants.{Qubits, Gates, Params, Circuits}
 use Rattle.qz_circ.specs.declared.fault.Which.{Which}
-use Rattle.qz_circ.specs.declared.fault.Which.TheVariants.{BoundsQubits, BoundsGates, BoundsParams, BoundsCircuits, Workers, PlanBatch, PlanCap, PlanRounds, PlanSlack, TrialQubits, TrialGates}
+use Rattle.qz_circ.specs.declared.fault.Which.TheVariants.{BoundsQubits, BoundsGates, BoundsParams, BoundsCircuits, Workers, PlanBatch, PlanCap, PlanRounds, PlanSlack, CostWeight, TrialQubits, TrialGates}
 use Rattle.qz_circ.specs.Circuit.{Limits}
 use Rattle.qz_circ.specs.Bounds.{refusal}
+use Rattle.qz_circ.specs.ProgramCircuits.{ones}
 use Rattle.qz_circ.specs.Search.{PlanNumbers}
 use Rattle.qz_search.specs.declared.plan.PlanFault.{PlanFault}
-use Rattle.qz_search.specs.declared.plan.PlanFault.TheVariants.{Batch, Cap, Rounds, Slack}
+use Rattle.qz_search.specs.declared.plan.PlanFault.TheVariants.{Batch, Cap, Rounds, Slack, Weight}
 use Rattle.qz_search.specs.PlanFaults.{plan_refusal}
 use Rattle.qz_top.specs.declared.words.Command.{Command}
 use Rattle.qz_top.specs.declared.words.Command.TheVariants.{Generate, Tidy, Optimise, Trial}
@@ -128,9 +129,10 @@ workers_of given = unwrap_or given.workers 1
 abbrev pub seed_of : Options → ℕ
 seed_of given = unwrap_or given.seed 0
 
--- the plan of the options: where they don't say, 16 rounds that take 8 circuits each, a queue of 100, and no slack
+-- the plan of the options: where they don't say, 16 rounds that take 8 circuits each, a queue of 100, and no slack; each gate
+-- weighs 1
 abbrev pub plan_of : Options → PlanNumbers
-plan_of given = record { rounds = unwrap_or given.rounds 16; batch = unwrap_or given.batch 8; cap = unwrap_or given.cap 100; slack = unwrap_or given.slack 0 }
+plan_of given = record { rounds = unwrap_or given.rounds 16; batch = unwrap_or given.batch 8; cap = unwrap_or given.cap 100; slack = unwrap_or given.slack 0; weights = ones }
 
 -- ---- limits
 
@@ -147,6 +149,7 @@ which_of_plan Batch = PlanBatch
 which_of_plan Cap = PlanCap
 which_of_plan Rounds = PlanRounds
 which_of_plan Slack = PlanSlack
+which_of_plan Weight = CostWeight
 
 -- the limit that a number of workers passes: there are 1 to 16
 abbrev pub workers_limit : ℕ → Option Which

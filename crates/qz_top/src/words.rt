@@ -342,6 +342,7 @@ fn limit_of_plan(fault: PlanFault) -> Which
         PlanFault::Cap => Which::PlanCap,
         PlanFault::Rounds => Which::PlanRounds,
         PlanFault::Slack => Which::PlanSlack,
+        PlanFault::Weight => Which::CostWeight,
     }
 }
 
