@@ -1,5 +1,5 @@
 -- What programs cost after a step by a rule.
-use Rattle.std.proofs.Common.{◌≡◌, ℕ, ◌+◌, Bool, true, false, List, [], ◌∷◌, ◌++◌, length, drop, Contains, Option, Some, None, refl, ap, arith}
+use Rattle.std.proofs.Common.{◌≡◌, ℕ, zero, suc, ◌+◌, ◌<◌, take, get_or, Bool, true, false, List, [], ◌∷◌, ◌++◌, length, drop, Contains, Option, Some, None, refl, ap, arith}
 use Rattle.std.specs.Prelude.{if◌then◌else◌}
 use Rattle.qz_circ.specs.declared.binding.Binding.{Binding}
 use Rattle.qz_circ.specs.declared.circuit.Op.{Op}
@@ -68,3 +68,15 @@ module _ (ws : List ℕ) where
       let bound_so = bound_cost nothing_bound left (selected (marked 0 place.positions c)) place.binding found.binds in
       let counted = replaced_cost place.positions (bound_instance place.binding right) c in
       omega (arith, bound_so, counted)
+
+  -- ---- gate by gate
+
+  one_more : (left : Circuit) (i : ℕ) (d : Op) → i < length left → rule_cost ws (take (suc i) left) ≡ rule_cost ws (take i left) + rule_weight ws (get_or left i d)
+  unfolding rule_cost
+  one_more [] i d l = absurd (omega arith)
+  one_more (g ∷ left) zero d l = omega arith
+  one_more (g ∷ left) (suc i) d l = omega (arith, one_more left i d (omega arith))
+
+  pub rule_cost_more : (left : Circuit) (i n m : ℕ) (d : Op) → i < length left → n ≡ rule_cost ws (take i left) → m ≡ rule_weight ws (get_or left i d) → n + m ≡ rule_cost ws (take (i + 1) left)
+  rule_cost_more left i n m d l is one =
+      let next : i + 1 ≡ suc i = omega arith in rw next (omega (arith, one_more left i d l, is, one))

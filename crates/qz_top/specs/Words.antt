@@ -10,7 +10,6 @@ use Rattle.qz_circ.specs.declared.fault.Which.{Which}
 use Rattle.qz_circ.specs.declared.fault.Which.TheVariants.{BoundsQubits, BoundsGates, BoundsParams, BoundsCircuits, Workers, PlanBatch, PlanCap, PlanRounds, PlanSlack, CostWeight, TrialQubits, TrialGates}
 use Rattle.qz_circ.specs.Circuit.{Limits}
 use Rattle.qz_circ.specs.Bounds.{refusal}
-use Rattle.qz_circ.specs.ProgramCircuits.{ones}
 use Rattle.qz_circ.specs.Search.{PlanNumbers}
 use Rattle.qz_search.specs.declared.plan.PlanFault.{PlanFault}
 use Rattle.qz_search.specs.declared.plan.PlanFault.TheVariants.{Batch, Cap, Rounds, Slack, Weight}
@@ -25,20 +24,9 @@ use Rattle.qz_top.specs.declared.words.Options.{Options}
 use Rattle.qz_top.specs.declared.words.WordFault.{WordFault}
 use Rattle.qz_top.specs.declared.words.WordFault.TheVariants.{Usage, Limit}
 use Rattle.qz_circ.specs.ProgramLimits.{most_qubits, most_gates}
-
--- ---- numbers
-
--- the number with one digit more at its end
-abbrev pub with_digit : ℕ → ℕ → ℕ
-with_digit n d = 10 * n + (d - 48)
-
--- one to eighteen digits, which may begin with zeros, and nothing else
-abbrev pub is_number : List ℕ → Bool
-is_number word = nat_lt 0 (length word) && nat_lt (length word) 19 && list_all is_ascii_digit word
-
--- the value of a number; none of any other word
-unfoldable pub number_of : List ℕ → Option ℕ
-number_of word = if is_number word then Some (fold with_digit 0 word) else None
+use Rattle.qz_top.specs.declared.cost_table.CostTable.{CostTable}
+pub use Rattle.qz_top.specs.Numbers.{with_digit, is_number, number_of, new_number}
+use Rattle.qz_top.specs.CostTables.{table_of, weights_of}
 
 -- ---- options
 
@@ -53,6 +41,7 @@ option_named word =
     else if bytes_eq word (codes "--batch") then Some option.Batch
     else if bytes_eq word (codes "--cap") then Some option.Cap
     else if bytes_eq word (codes "--slack") then Some option.Slack
+    else if bytes_eq word (codes "--cost") then Some option.Cost
     else None
 
 -- words of this form may have this option
@@ -76,21 +65,21 @@ takes_value _ = true
 
 -- no option is given
 abbrev pub no_options : Options
-no_options = record { workers = None; seed = None; report = false; rules = None; rounds = None; batch = None; cap = None; slack = None }
+no_options = record { workers = None; seed = None; report = false; rules = None; rounds = None; batch = None; cap = None; slack = None; cost = None }
 
 -- the word that names a rule file is one of the first n
 abbrev pub IsFileWithin : ℕ → Options → Type 0
 IsFileWithin n given = IfSome given.rules (λ k. k < n)
 
--- the number that a word is, for an option that has no number yet
-abbrev pub new_number : Option ℕ → List ℕ → Option ℕ
-new_number None word = number_of word
-new_number (Some earlier) word = None
-
 -- the place of a word that names a file, for an option that has none yet; a name isn't empty
 abbrev pub new_file : Option ℕ → ℕ → List ℕ → Option ℕ
 new_file None k word = if nat_lt 0 (length word) then Some k else None
 new_file (Some earlier) k word = None
+
+-- the table that a word is, for an option that has none yet
+abbrev pub new_table : Option CostTable → List ℕ → Option CostTable
+new_table None word = table_of word
+new_table (Some earlier) word = None
 
 -- these options and one more, whose value is this word, the one with number k; none where it was given before, or the word is
 -- no such value
@@ -103,6 +92,7 @@ with_value given option.Rounds k word = option_map (λ n. record given { rounds 
 with_value given option.Batch k word = option_map (λ n. record given { batch = Some n }) (new_number given.batch word)
 with_value given option.Cap k word = option_map (λ n. record given { cap = Some n }) (new_number given.cap word)
 with_value given option.Slack k word = option_map (λ n. record given { slack = Some n }) (new_number given.slack word)
+with_value given option.Cost k word = option_map (λ t. record given { cost = Some t }) (new_table given.cost word)
 
 -- these options and one more that has no value; none where it was given before, or has a value
 abbrev pub without_value : Options → OptionName → Option Options
@@ -129,10 +119,10 @@ workers_of given = unwrap_or given.workers 1
 abbrev pub seed_of : Options → ℕ
 seed_of given = unwrap_or given.seed 0
 
--- the plan of the options: where they don't say, 16 rounds that take 8 circuits each, a queue of 100, and no slack; each gate
--- weighs 1
+-- the plan of the options: where they don't say, 16 rounds that take 8 circuits each, a queue of 100, and no slack; a gate of
+-- which they say nothing weighs 1
 abbrev pub plan_of : Options → PlanNumbers
-plan_of given = record { rounds = unwrap_or given.rounds 16; batch = unwrap_or given.batch 8; cap = unwrap_or given.cap 100; slack = unwrap_or given.slack 0; weights = ones }
+plan_of given = record { rounds = unwrap_or given.rounds 16; batch = unwrap_or given.batch 8; cap = unwrap_or given.cap 100; slack = unwrap_or given.slack 0; weights = weights_of given.cost }
 
 -- ---- limits
 
