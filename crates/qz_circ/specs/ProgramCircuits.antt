@@ -1,6 +1,6 @@
 -- Circuits of programs: which there are, what they mean, when two are the same unitary up to a phase, and their order.
 -- They differ from those of rules in their angles, which are whole numbers of 512ths of a full circle.
-use Rattle.std.specs.Prelude.{◌≢◌, ℕ, ◌<◌, ◌≤◌, Bool, true, false, List, [], ◌∷◌, length, count_by}
+use Rattle.std.specs.Prelude.{◌≡◌, ◌≢◌, ℕ, ◌+◌, ◌<◌, ◌≤◌, Bool, true, false, List, [], ◌∷◌, length, count_by, slice_index_or}
 use Rattle.std.specs.List.{AllByRecursion}
 use Rattle.std.specs.declared.cmp.Ordering.{Ordering}
 use Rattle.std.specs.Ordering.{nat_cmp, ordering_then}
@@ -59,9 +59,36 @@ scaled_program_ways q c other i j = root2 (program_halves other) (program_paths 
 abbrev pub EquivalentProgramCircuits : ℕ → ProgramCircuit → ProgramCircuit → Type 0
 EquivalentProgramCircuits q a c = (u : Exponent) × SameUpTo q u (scaled_program_ways q a c) (scaled_program_ways q c a)
 
--- what a circuit costs: its number of gates
-abbrev pub cost : ProgramCircuit → ℕ
-cost c = length c
+-- ---- costs and order
+
+-- the most that a gate may weigh
+abbrev pub most_weight : ℕ
+most_weight = 100
+
+-- a gate weighs from 1 to 100
+abbrev pub IsWeight : ℕ → Type 0
+IsWeight w = (1 ≤ w) × (w ≤ most_weight)
+
+-- four weights: those of H, X, CX and rotations
+pub record AreWeights (ws : List ℕ) : Type 0 where
+  pub count : length ws ≡ 4
+  pub each : AllByRecursion IsWeight ws
+
+-- each gate weighs 1
+abbrev pub ones : List ℕ
+ones = 1 ∷ 1 ∷ 1 ∷ 1 ∷ []
+
+-- what a gate weighs, by its kind
+abbrev pub weight : List ℕ → Inst → ℕ
+weight ws (H t) = slice_index_or ws 0 1
+weight ws (X t) = slice_index_or ws 1 1
+weight ws (Cx c t) = slice_index_or ws 2 1
+weight ws (Rz t k) = slice_index_or ws 3 1
+
+-- what a circuit costs: the sum of the weights of its gates
+unfoldable pub cost : List ℕ → ProgramCircuit → ℕ
+cost ws [] = 0
+cost ws (g ∷ c) = weight ws g + cost ws c
 
 -- gates compare by kind, H first, then X, CX and rotations; then by their qubits; and rotations then by angle
 abbrev pub program_gate_key : Inst → List ℕ
@@ -74,5 +101,6 @@ unfoldable pub program_gate_cmp : Inst → Inst → Ordering
 program_gate_cmp f g = slice_cmp nat_cmp (program_gate_key f) (program_gate_key g)
 
 -- a cheaper circuit is earlier; of equally cheap ones a shorter one; and then the first different gate decides
-unfoldable pub program_cmp : ProgramCircuit → ProgramCircuit → Ordering
-program_cmp c d = ordering_then (nat_cmp (cost c) (cost d)) (ordering_then (nat_cmp (length c) (length d)) (slice_cmp program_gate_cmp c d))
+unfoldable pub program_cmp : List ℕ → ProgramCircuit → ProgramCircuit → Ordering
+program_cmp ws c d =
+    ordering_then (nat_cmp (cost ws c) (cost ws d)) (ordering_then (nat_cmp (length c) (length d)) (slice_cmp program_gate_cmp c d))

@@ -40,8 +40,10 @@ pub enum Which {
     PlanCap,
     /// A search takes at most 4,096 circuits in all its rounds.
     PlanRounds,
-    /// A search goes at most 4 gates over the best circuit.
+    /// A search goes at most 4 over the cost of the best circuit.
     PlanSlack,
+    /// A gate weighs 1 to 100.
+    CostWeight,
     /// A program has at most 4,194,304 bytes.
     InputBytes,
     /// A rule file has at most 134,217,728 bytes.

@@ -1,9 +1,12 @@
-//! Laws of ranks and class lists, over all values: each function has an empty body, and its contract is the law.
+//! Laws of ranks, of class lists and of the order of programs, over all values: each function has an empty body, and its contract is the law.
 ghost use Rattle.std.specs.Prelude.{◌≡◌, ℕ, ◌<◌, ◌↔◌, IsTrue, List, length, Contains};
+ghost use Rattle.std.specs.Ordering.{nat_cmp, ordering_then};
+ghost use Rattle.std.specs.Cmp.Lexicographic.{slice_cmp};
 ghost use Rattle.qz_circ.specs.declared.circuit.Op.{Op};
 ghost use Rattle.qz_circ.specs.Circuit.{Limits, Circuit, Within, IsOn, ActsBelow, HasBelow, gates_of};
 ghost use Rattle.qz_circ.specs.Bounds.{IsLawful};
 ghost use Rattle.qz_circ.specs.Order.{is_before, all_circuits, rank, circuit_at};
+ghost use Rattle.qz_circ.specs.ProgramCircuits.{ProgramCircuit, ones, cost, program_gate_cmp, program_cmp};
 ghost use Rattle.qz_circ.specs.Classes.{without_first, without_last, IsClassList};
 
 /// Each circuit within limits is the one at its rank.
@@ -39,4 +42,10 @@ pub fn parts_are_within()
 /// At most one list is the class list of some limits.
 pub fn class_lists_are_unique()
     ensures { (b : Limits) (k l : List (List ℕ)) → IsClassList b k → IsClassList b l → k ≡ l }
+{}
+
+/// Where each gate weighs 1, a circuit costs as much as it has gates, and circuits compare by length and then by gates.
+pub fn ones_give_the_order_by_length()
+    ensures costs { (c : ProgramCircuit) → cost ones c ≡ length c }
+    ensures order { (c d : ProgramCircuit) → program_cmp ones c d ≡ ordering_then (nat_cmp (length c) (length d)) (slice_cmp program_gate_cmp c d) }
 {}

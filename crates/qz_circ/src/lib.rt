@@ -8,6 +8,7 @@ mod bound;
 mod circuit;
 mod class_list;
 mod constant;
+mod costs;
 mod fault;
 mod gate_name;
 pub mod laws;
@@ -30,9 +31,10 @@ pub use bound::Bounds;
 pub use circuit::{Expr, Inst, Op};
 pub use class_list::Classes;
 pub use constant::{constant_of, constant_turn, multiple_of};
+pub use costs::{are_ones, cost, price, weight};
 pub use fault::{AngleFault, LexFault, LimitFault, Memory, QasmFault, RuleFault, Which};
 pub use gate_name::GateName;
-pub use order::{prec, prec_insts};
+pub use order::{prec, prec_by, prec_insts};
 pub use program::{Arg, Args, Program, Register, Tail};
 pub use program_limits::{
     LONGEST_WORD, MOST_BITS, MOST_DIGITS, MOST_GATES, MOST_QUBITS, MOST_REGISTERS,

@@ -8,7 +8,7 @@ ghost use Rattle.qz_circ.specs.Circuit.{angles};
 ghost use Rattle.qz_circ.specs.Exponent.{zero_exponent, turn_of, angle_value};
 ghost use Rattle.qz_circ.specs.Order.{all_circuits, rank, circuit_at};
 ghost use Rattle.qz_circ.specs.Paths.{paths, count};
-ghost use Rattle.qz_circ.specs.ProgramCircuits.{IsProgramGate, IsProgramCircuit, program_paths, program_cmp};
+ghost use Rattle.qz_circ.specs.ProgramCircuits.{IsProgramGate, IsProgramCircuit, program_paths, ones, program_cmp};
 
 /// With at most two gates on one qubit there are 91 circuits; X and then a rotation by π/4 comes after 21 of them,
 /// and the last is two rotations by 7π/4.
@@ -66,11 +66,11 @@ pub fn program_gates_are_told()
 
 /// Of program circuits on two qubits X on qubit 1 comes before CX on 0 and 1; a rotation of qubit 0 comes before one of
 /// qubit 1 by a smaller angle; and two X come after one rotation.
-#[tactic(auto, unfolding(crate::specs::ProgramCircuits::program_cmp, crate::specs::ProgramCircuits::program_gate_cmp))]
+#[tactic(auto, unfolding(crate::specs::ProgramCircuits::cost, crate::specs::ProgramCircuits::program_cmp, crate::specs::ProgramCircuits::program_gate_cmp))]
 pub fn program_circuits_come_in_order()
-    ensures kinds { program_cmp (ProgramX 1 ∷ []) (ProgramCx 0 1 ∷ []) ≡ Less }
-    ensures qubits { program_cmp (ProgramRz 0 2 ∷ []) (ProgramRz 1 1 ∷ []) ≡ Less }
-    ensures lengths { program_cmp (ProgramX 0 ∷ ProgramX 0 ∷ []) (ProgramRz 1 1 ∷ []) ≡ Greater }
+    ensures kinds { program_cmp ones (ProgramX 1 ∷ []) (ProgramCx 0 1 ∷ []) ≡ Less }
+    ensures qubits { program_cmp ones (ProgramRz 0 2 ∷ []) (ProgramRz 1 1 ∷ []) ≡ Less }
+    ensures lengths { program_cmp ones (ProgramX 0 ∷ ProgramX 0 ∷ []) (ProgramRz 1 1 ∷ []) ≡ Greater }
 {}
 
 /// With parameters 0 and 1 bound to 100 and 500 turns, 33·π/16 is 16 turns, the negative of parameter 0 is 412, and the

@@ -179,6 +179,41 @@ fn optimisation(rules: usize, plan: [u64; 4], workers: u64) -> Option<Command> {
     })
 }
 
+// An optimisation by the file that the third word names, with gates that weigh so much.
+fn weighed(weights: [u64; 4]) -> Option<Command> {
+    let plan = Plan::weighted(16, 8, 100, 0, weights).ok()?;
+    Some(Command::Optimise {
+        rules: 2,
+        plan,
+        workers: 1,
+    })
+}
+
+// A table of costs names kinds of gates in any order, and those that it doesn't name weigh 1.
+#[test]
+fn reads_tables_of_costs(rt: HostRuntime) {
+    let rows = [
+        (
+            "optimise --rules r --cost cx=10,h=2",
+            weighed([2, 1, 10, 1]),
+        ),
+        (
+            "optimise --rules r --cost rz=004,cx=3,x=100,h=1",
+            weighed([1, 100, 3, 4]),
+        ),
+        ("optimise --rules r --cost x=1", weighed([1, 1, 1, 1])),
+    ];
+    asks(&rt, rt.alloc(), &rows);
+    let rows = [
+        ("optimise --rules r --cost y=2", Status::Usage),
+        ("optimise --rules r --cost cx=5,cx=5", Status::Usage),
+        ("optimise --rules r --cost cx=", Status::Usage),
+        ("optimise --rules r --cost h", Status::Usage),
+        ("optimise --rules r --cost h=1,", Status::Usage),
+    ];
+    refuses(&rt, rt.alloc(), &rows);
+}
+
 // The value of an option is the next word, whatever it is.
 #[test]
 fn reads_options(rt: HostRuntime) {
@@ -373,6 +408,11 @@ fn tells_the_first_limit(rt: HostRuntime) {
         ),
         (many_rounds, Which::PlanRounds),
         ("optimise --workers 0 --slack 5 --rules r", Which::PlanSlack),
+        (
+            "optimise --workers 0 --cost rz=101,h=0 --rules r",
+            Which::CostWeight,
+        ),
+        ("optimise --cost cx=0 --slack 5 --rules r", Which::PlanSlack),
         ("optimise --workers 0 --rules r", Which::Workers),
         ("optimise --workers 17 --rules r", Which::Workers),
     ];

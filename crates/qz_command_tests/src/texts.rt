@@ -73,7 +73,7 @@ fn tells(rt: &impl Abort, alloc: Global, rows: &[(Status, &str)]) {
     }
 }
 
-fn limits() -> [(Status, &'static str); 17] {
+fn limits() -> [(Status, &'static str); 18] {
     [
         (Limit(Which::BoundsQubits), "limit: bounds-qubits\n"),
         (Limit(Which::BoundsGates), "limit: bounds-gates\n"),
@@ -85,6 +85,7 @@ fn limits() -> [(Status, &'static str); 17] {
         (Limit(Which::PlanCap), "limit: plan-cap\n"),
         (Limit(Which::PlanRounds), "limit: plan-rounds\n"),
         (Limit(Which::PlanSlack), "limit: plan-slack\n"),
+        (Limit(Which::CostWeight), "limit: cost-weight\n"),
         (Limit(Which::InputBytes), "limit: input-bytes\n"),
         (Limit(Which::RuleBytes), "limit: rule-bytes\n"),
         (Limit(Which::ProgramRegisters), "limit: program-registers\n"),

@@ -3,7 +3,8 @@ use Rattle.std.proofs.Common.{◌≡◌, ℕ, List, ◌++◌, take, drop, map, V
 use Rattle.std.specs.Prelude.{IfOk}
 use Rattle.std.proofs.lemmas.List.{take-append-drop, map-append}
 use Rattle.qz_circ.specs.ProgramCircuits.{ProgramCircuit}
-use Rattle.qz_circ.specs.Search.{earliest}
+use Rattle.qz_circ.specs.Search.{earliest, is_short}
+use Rattle.std.specs.List.{filter}
 use Rattle.qz_circ.specs.Vectors.{lists_of}
 use Rattle.qz_queue.proofs.DifferentOnes.{Has, has_left, has_right}
 use Rattle.qz_search.specs.Offers.{AreFit, offered_to}
@@ -30,7 +31,7 @@ offered_ahead s t next first rest all parts e is =
     let u : SearchParts = record s { queue = offered_to s.queue (new_children s first) } in
     let queue = offered_on s.queue u.queue (new_children s first) (new_children s rest) refl
     ∙ ap (offered_to s.queue) (sym (children_of_both s first rest) ∙ ap (new_children s) parts) in
-    is ∙ ap (λ x. advanced x (new_children x rest)) e ∙ (λ i. record s { queue = queue i; best = earliest s.best (queue i).list })
+    is ∙ ap (λ x. advanced x (new_children x rest)) e ∙ (λ i. record s { queue = queue i; best = earliest s.queue.weights s.best (filter is_short (queue i).list) })
 
 pub round_ahead : {E : Type 0} (s t : SearchParts) (first rest all : List ProgramCircuit) (made : Result SearchParts E) → first ++ rest ≡ all → t ≡ record s { queue = offered_to s.queue (new_children s first) }
     → IfOk made (λ next. next ≡ advanced t (new_children t rest)) → IfOk made (λ next. next ≡ advanced s (new_children s all))

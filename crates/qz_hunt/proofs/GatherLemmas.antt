@@ -24,16 +24,16 @@ use Rattle.qz_seats.proofs.Sums.{counted_there}
 use Rattle.qz_hunt.specs.Gathered.{RoundParts, numbered, gathered, IsGathered, AreMerged}
 
 -- the first of the first ones of two are those of both
-first_of_both : (n : ℕ) (xs ys : List ProgramCircuit) → firsts n (firsts n xs ++ firsts n ys) ≡ firsts n (xs ++ ys)
-first_of_both n xs ys =
-    first_right program_cmp_total program_cmp_exact n (firsts n xs) xs (firsts n ys) (first_twice program_cmp_total program_cmp_exact n xs)
-    ∙ first_left program_cmp n xs (firsts n ys) ys (first_twice program_cmp_total program_cmp_exact n ys)
+first_of_both : (ws : List ℕ) (n : ℕ) (xs ys : List ProgramCircuit) → firsts ws n (firsts ws n xs ++ firsts ws n ys) ≡ firsts ws n (xs ++ ys)
+first_of_both ws n xs ys =
+    first_right (program_cmp_total ws) (program_cmp_exact ws) n (firsts ws n xs) xs (firsts ws n ys) (first_twice (program_cmp_total ws) (program_cmp_exact ws) n xs)
+    ∙ first_left (program_cmp ws) n xs (firsts ws n ys) ys (first_twice (program_cmp_total ws) (program_cmp_exact ws) n ys)
 
 -- what was offered to a queue twice, some here and some there, was offered to it
-offered_to_both : (q : QueueList) (cs ds : List ProgramCircuit) → firsts q.cap ((offered_to q cs).list ++ (offered_to q ds).list) ≡ (offered_to q (cs ++ ds)).list
+offered_to_both : (q : QueueList) (cs ds : List ProgramCircuit) → firsts q.weights q.cap ((offered_to q cs).list ++ (offered_to q ds).list) ≡ (offered_to q (cs ++ ds)).list
 offered_to_both q cs ds =
-    first_of_both q.cap (q.list ++ cs) (q.list ++ ds)
-    ∙ first_same program_cmp_total program_cmp_exact q.cap ((q.list ++ cs) ++ (q.list ++ ds)) (q.list ++ (cs ++ ds))
+    first_of_both q.weights q.cap (q.list ++ cs) (q.list ++ ds)
+    ∙ first_same (program_cmp_total q.weights) (program_cmp_exact q.weights) q.cap ((q.list ++ cs) ++ (q.list ++ ds)) (q.list ++ (cs ++ ds))
     (λ k h. elim (has_append (q.list ++ cs) (q.list ++ ds) k h) [ inl here ↦ here_first k here | inr there ↦ there_last k there ])
     (λ k h. elim (has_append q.list (cs ++ ds) k h) [
       | inl old ↦ has_left (q.list ++ cs) (q.list ++ ds) k (has_left q.list cs k old)
@@ -52,8 +52,8 @@ offered_to_both q cs ds =
 -- the new children of some and of others
 pub children_of_both : (s : SearchParts) (cs ds : List ProgramCircuit) → new_children s (cs ++ ds) ≡ new_children s cs ++ new_children s ds
 children_of_both s cs ds =
-    ap (filter (is_new s.seen s.most)) (flat_map-append (children_by_table s.rules) cs ds)
-    ∙ filter-append (is_new s.seen s.most) (flat_map (children_by_table s.rules) cs) (flat_map (children_by_table s.rules) ds)
+    ap (filter (is_new s.queue.weights s.seen s.most)) (flat_map-append (children_by_table s.rules) cs ds)
+    ∙ filter-append (is_new s.queue.weights s.seen s.most) (flat_map (children_by_table s.rules) cs) (flat_map (children_by_table s.rules) ds)
 
 -- the circuit with one number, and none past the end
 numbered_one : (batch : List ProgramCircuit) (n : ℕ) (c : ProgramCircuit) → n < length batch → c ≡ get_or batch n c → numbered batch (n ∷ []) ≡ c ∷ []
@@ -83,10 +83,11 @@ module _ (r : RoundParts) where
       ∙ ap (offered_to r.search.queue) (sym (children_of_both r.search (numbered r.batch ds) (numbered r.batch es)) ∙ ap (new_children r.search) (sym (flat_map-append (λ d. take 1 (drop d r.batch)) ds es)))
 
   -- one more
-  pub gathered_more : (q new : QueueList) (ds : List ℕ) (n : ℕ) (c : ProgramCircuit) → n < length r.batch → c ≡ get_or r.batch n c → q ≡ gathered r ds → new ≡ offered_to q (filter (is_new r.search.seen r.search.most) (children_by_table r.search.rules c)) → new ≡ gathered r (ds ++ n ∷ [])
+  pub gathered_more : (q new : QueueList) (ds : List ℕ) (n : ℕ) (c : ProgramCircuit) → n < length r.batch → c ≡ get_or r.batch n c → q ≡ gathered r ds → new ≡ offered_to q (filter (is_new q.weights r.search.seen r.search.most) (children_by_table r.search.rules c)) → new ≡ gathered r (ds ++ n ∷ [])
   gathered_more q new ds n c inside is before offered =
       offered
-      ∙ ap (λ cs. offered_to q (filter (is_new r.search.seen r.search.most) cs)) (sym (append-nil (children_by_table r.search.rules c)))
+      ∙ (λ i. offered_to q (filter (is_new (before i).weights r.search.seen r.search.most) (children_by_table r.search.rules c)))
+      ∙ ap (λ cs. offered_to q (filter (is_new r.search.queue.weights r.search.seen r.search.most) cs)) (sym (append-nil (children_by_table r.search.rules c)))
       ∙ ap (λ cs. offered_to q (new_children r.search cs)) (sym (numbered_one r.batch n c inside is))
       ∙ gathered_on q ds (n ∷ []) before
 
@@ -97,7 +98,7 @@ module _ (r : RoundParts) where
       (flat_map-append (λ d. take 1 (drop d r.batch)) ds (n ∷ []) ∙ ap (λ cs. numbered r.batch ds ++ cs) (numbered_past r.batch n past) ∙ append-nil (numbered r.batch ds))
 
   -- a draw that gives a number
-  pub drew_one : (q new : QueueList) (v w : View) (n : ℕ) (c : ProgramCircuit) → v.terms.limit ≡ length r.batch → Drew v (Some n) w → c ≡ get_or r.batch n c → q ≡ gathered r v.drawn → new ≡ offered_to q (filter (is_new r.search.seen r.search.most) (children_by_table r.search.rules c)) → new ≡ gathered r w.drawn
+  pub drew_one : (q new : QueueList) (v w : View) (n : ℕ) (c : ProgramCircuit) → v.terms.limit ≡ length r.batch → Drew v (Some n) w → c ≡ get_or r.batch n c → q ≡ gathered r v.drawn → new ≡ offered_to q (filter (is_new q.weights r.search.seen r.search.most) (children_by_table r.search.rules c)) → new ≡ gathered r w.drawn
   drew_one q new v w n c limit drew is before offered =
       gathered_more q new v.drawn n c (omega (arith, limit, drew.1)) is before offered ∙ (λ i. gathered r (sym drew.4 i).drawn)
 
@@ -118,8 +119,8 @@ module _ (r : RoundParts) where
       record {
         ended = ap (λ x. x.ended) is ∙ ap (λ x. x || v.ended) a.ended;
         all = merged.all_is
-            ∙ (λ i. record { cap = (a.all i).cap; list = firsts (a.all i).cap ((a.all i).list ++ (b.all i).list) })
-            ∙ (λ i. record { cap = r.search.queue.cap; list = offered_to_both r.search.queue cs ds i })
+            ∙ (λ i. record { cap = (a.all i).cap; weights = (a.all i).weights; list = firsts (a.all i).weights (a.all i).cap ((a.all i).list ++ (b.all i).list) })
+            ∙ (λ i. record { cap = r.search.queue.cap; weights = r.search.queue.weights; list = offered_to_both r.search.queue cs ds i })
             ∙ ap (offered_to r.search.queue) (sym (children_of_both r.search (numbered r.batch u.drawn) (numbered r.batch v.drawn)) ∙ ap (new_children r.search) (sym (flat_map-append (λ d. take 1 (drop d r.batch)) u.drawn v.drawn)))
             ∙ (λ i. gathered r (sym is i).drawn);
       }
@@ -141,7 +142,7 @@ module _ (r : RoundParts) where
   gathered_all q v is drawn =
       let s = r.search in
       let next = children_by_table s.rules in
-      let test = is_new s.seen s.most in
+      let test = is_new s.queue.weights s.seen s.most in
       let each : (n : ℕ) → n < length r.batch → Contains v.drawn n =
       λ n inside. (let found = counted_there (λ d. d == n) v.drawn (omega (arith, drawn n inside)) in subst (Contains v.drawn) (eqb-true found.0 n found.2) found.1) in
       let moved : (cs ds : List ProgramCircuit) → ((c : ProgramCircuit) → Has cs c → Has ds c) → (k : ProgramCircuit) → Has (new_children s cs) k → Has (new_children s ds) k =
@@ -149,7 +150,7 @@ module _ (r : RoundParts) where
       let kept = filter_has test k (flat_map next cs) there in
       let found = flat_map_has next cs k kept.0 in
       has_filter test k (flat_map next ds) (has_flat_map next ds found.0 k (passes found.0 found.1) found.2) kept.1) in
-      let same = first_same program_cmp_total program_cmp_exact s.queue.cap (new_children s (numbered r.batch v.drawn)) (new_children s r.batch)
+      let same = first_same (program_cmp_total s.queue.weights) (program_cmp_exact s.queue.weights) s.queue.cap (new_children s (numbered r.batch v.drawn)) (new_children s r.batch)
       (moved (numbered r.batch v.drawn) r.batch (batch_has v.drawn))
       (moved r.batch (numbered r.batch v.drawn) (λ c. has_batch v.drawn c each)) in
-      is ∙ (λ i. record { cap = s.queue.cap; list = first_left program_cmp s.queue.cap s.queue.list (new_children s (numbered r.batch v.drawn)) (new_children s r.batch) same i })
+      is ∙ (λ i. record { cap = s.queue.cap; weights = s.queue.weights; list = first_left (program_cmp s.queue.weights) s.queue.cap s.queue.list (new_children s (numbered r.batch v.drawn)) (new_children s r.batch) same i })

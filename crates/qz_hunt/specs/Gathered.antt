@@ -42,4 +42,4 @@ pub record AreMerged {E : Type 0} (one others : Result QueueList E) (all : Queue
   pub second : QueueList
   pub first_is : one ≡ Ok first
   pub second_is : others ≡ Ok second
-  pub all_is : all ≡ record first { list = firsts first.cap (first.list ++ second.list) }
+  pub all_is : all ≡ record first { list = firsts first.weights first.cap (first.list ++ second.list) }

@@ -48,7 +48,8 @@ fn parted(round: &Round, pass: Pass<NoValue>) -> (Pass<NoValue>, Pass<NoValue>)
 
 // The circuits of both queues in one.
 fn merged(one: Result<Queue, Memory>, others: Result<Queue, Memory>) -> Result<Queue, Memory>
-    requires { IfOk one (λ q. IfOk others (λ p. q.cap ≡ p.cap)) }
+    requires cap { IfOk one (λ q. IfOk others (λ p. q.cap ≡ p.cap)) }
+    requires weights { IfOk one (λ q. IfOk others (λ p. q.weights ≡ p.weights)) }
     ensures { IfOk result (λ all. AreMerged one others all) }
 {
     let mut all = one?;

@@ -96,10 +96,11 @@ pub fn hunt<R: Threads + Wait + Sync, T: Turnstile>(
     requires few { length c.now ≤ most_gates }
     requires gates { AllByRecursion (IsProgramGate most_qubits) c.now }
     ensures best { IfOk result (λ d. d.items ≡ best_found (children rules.now.classes) plan c.now) }
-    ensures cheap { IfOk result (λ d. length d.items ≤ length c.now) }
+    ensures cheap { IfOk result (λ d. cost plan.weights d.items ≤ cost plan.weights c.now) }
+    ensures short { IfOk result (λ d. length d.items ≤ most_gates) }
     ensures lawful { (q : ℕ) → q ≤ most_qubits → AllByRecursion (IsProgramGate q) c.now → IfOk result (λ d. AllByRecursion (IsProgramGate q) d.items) }
     ensures equivalent { (q : ℕ) → q ≤ most_qubits → AllByRecursion (IsProgramGate q) c.now → IfOk result (λ d. EquivalentProgramCircuits q c.now d.items) }
-    ensures complete { IsComplete (children rules.now.classes) plan c.now → IfOk result (λ d. (x : ProgramCircuit) → IsReached (children rules.now.classes) (cost d.items + plan.slack) c.now x → is_lt (program_cmp x d.items) ≡ false) }
+    ensures complete { IsComplete (children rules.now.classes) plan c.now → IfOk result (λ d. (x : ProgramCircuit) → length x ≤ most_gates → IsReached (children rules.now.classes) plan.weights (cost plan.weights d.items + plan.slack) c.now x → is_lt (program_cmp plan.weights x d.items) ≡ false) }
 {
     let mut rounds = Rounds::begin(alloc, rules, c, plan)?;
     while let Some(batch) = rounds.take_batch(alloc)? {

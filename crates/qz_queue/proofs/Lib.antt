@@ -4,3 +4,4 @@ pub mod QueueLists
 pub mod Costs
 pub mod Fronts
 pub mod LastOnes
+pub mod FirstOnes

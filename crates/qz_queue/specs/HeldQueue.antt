@@ -1,15 +1,16 @@
 -- What a queue in memory keeps.
-use Rattle.std.specs.Prelude.{ℕ, ◌≤◌, Vec, vec_capacity}
-use Rattle.qz_circ.specs.declared.circuit.Inst.{Inst}
+use Rattle.std.specs.Prelude.{ℕ, ◌≤◌, List, Vec, vec_capacity}
 use Rattle.qz_circ.specs.Queue.{QueueList, IsQueue}
-use Rattle.qz_circ.specs.Vectors.{lists_of}
+use Rattle.qz_queue.specs.declared.priced.Priced.{Priced}
+use Rattle.qz_queue.specs.Circuits.{circuits_of, ArePriced}
 
-module _ {A B : Type 0} where
-  -- the queue that a number and some vectors stand for
-  abbrev pub queue_of : ℕ → Vec (Vec Inst A) B → QueueList
-  queue_of cap list = record { cap = cap; list = lists_of list.items }
+module _ {B : Type 0} where
+  -- the queue that a number, some weights and some circuits with their prices stand for
+  abbrev pub queue_of : ℕ → List ℕ → Vec Priced B → QueueList
+  queue_of cap weights list = record { cap = cap; weights = weights; list = circuits_of list.items }
 
-  -- it is a queue, and there is room for all that it may hold
-  pub record IsHeld (cap : ℕ) (list : Vec (Vec Inst A) B) : Type 0 where
-    pub lawful : IsQueue (queue_of cap list)
+  -- it is a queue, its prices are right, and there is room for all that it may hold
+  pub record IsHeld (cap : ℕ) (weights : List ℕ) (list : Vec Priced B) : Type 0 where
+    pub lawful : IsQueue (queue_of cap weights list)
+    pub priced : ArePriced weights list.items
     pub room : cap ≤ vec_capacity list

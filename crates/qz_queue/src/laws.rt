@@ -7,5 +7,5 @@ ghost use Rattle.qz_circ.specs.Queue.{QueueStep, after_steps, firsts, given};
 /// circuits: those that it held before, those that were offered, and those of the queues that were merged.
 #[tactic(auto, using(crate::proofs::QueueLists::steps_are))]
 pub fn queues_hold_the_first_of_all()
-    ensures { (cap : ℕ) (list : List ProgramCircuit) → firsts cap list ≡ list → (steps : List QueueStep) → after_steps cap list steps ≡ firsts cap (list ++ given steps) }
+    ensures { (weights : List ℕ) (cap : ℕ) (list : List ProgramCircuit) → firsts weights cap list ≡ list → (steps : List QueueStep) → after_steps weights cap list steps ≡ firsts weights cap (list ++ given steps) }
 {}

@@ -1,33 +1,22 @@
 //! The place of a circuit among others that are different and in order.
 ghost use Rattle.std.specs.Prelude.{◌≡◌, ◌<◌, ◌≤◌, [], length, take, slice_index_or};
-ghost use Rattle.qz_circ.specs.ProgramCircuits.{program_cmp};
+ghost use Rattle.qz_circ.specs.ProgramCircuits.{ones, cost, program_cmp};
 ghost use Rattle.qz_circ.specs.Search.{is_among};
-ghost use Rattle.qz_circ.specs.Vectors.{lists_of};
-ghost use Rattle.qz_queue.specs.Circuits.{AreOrdered, IsFront, place_of};
+ghost use Rattle.qz_queue.specs.Circuits.{circuits_of, ArePriced, AreOrdered, IsFront, place_of};
 
+use crate::priced::Priced;
 use qz_circ::{Inst, prec_insts};
 use std::cmp::Ordering;
 
-// How the circuit with this number compares with another one, where some gates at their front are known to be the same; and
-// how many then are known to be, which is none where one of them is longer.
-fn compare_from(list: &[Vec<Inst>], i: usize, c: &[Inst], from: usize) -> (Ordering, usize)
-    requires within { i < length list.now }
-    requires same { take from (slice_index_or (lists_of list.now) i []) ≡ take from c.now }
-    ensures order { result.0 ≡ program_cmp (slice_index_or (lists_of list.now) i []) c.now }
-    ensures same { IsFront result.1 (slice_index_or (lists_of list.now) i []) c.now }
+// How two circuits of one price compare, where some gates at their front are known to be the same; and how many then are known
+// to be.
+fn compare_gates(a: &[Inst], c: &[Inst], from: usize, weights: [u8; 4]) -> (Ordering, usize)
+    requires dear { cost weights a.now ≡ cost weights c.now }
+    requires long { length a.now ≡ length c.now }
+    requires same { take from a.now ≡ take from c.now }
+    ensures order { result.0 ≡ program_cmp weights a.now c.now }
+    ensures same { IsFront weights result.1 a.now c.now }
 {
-    compare_gates(&list[i], c, from)
-}
-
-// The same for a circuit at hand.
-fn compare_gates(a: &[Inst], c: &[Inst], from: usize) -> (Ordering, usize)
-    requires { take from a.now ≡ take from c.now }
-    ensures order { result.0 ≡ program_cmp a.now c.now }
-    ensures same { IsFront result.1 a.now c.now }
-{
-    if a.len() != c.len() {
-        return (prec_insts(a, c), 0);
-    }
     let mut k = from;
     while k < a.len() {
         if a[k] == c[k] {
@@ -41,6 +30,50 @@ fn compare_gates(a: &[Inst], c: &[Inst], from: usize) -> (Ordering, usize)
         k += 1;
     }
     (Ordering::Equal, k)
+}
+
+// The same of a circuit that is held, and of any price; none of its gates are known to be the same where its price or its length
+// is another.
+fn compare(
+    held: &Priced,
+    c: &[Inst],
+    price: u128,
+    from: usize,
+    weights: [u8; 4],
+) -> (Ordering, usize)
+    requires held { held.now.price ≡ cost weights held.now.gates.items }
+    requires price { price ≡ cost weights c.now }
+    requires same { take from held.now.gates.items ≡ take from c.now }
+    ensures order { result.0 ≡ program_cmp weights held.now.gates.items c.now }
+    ensures same { IsFront weights result.1 held.now.gates.items c.now }
+{
+    let order = held.price.cmp(&price);
+    if order.is_ne() {
+        return (order, 0);
+    }
+    if held.gates.len() != c.len() {
+        return (prec_insts(&held.gates, c), 0);
+    }
+    compare_gates(&held.gates, c, from, weights)
+}
+
+// The same of the one with this number.
+fn compare_from(
+    list: &[Priced],
+    i: usize,
+    c: &[Inst],
+    price: u128,
+    from: usize,
+    weights: [u8; 4],
+) -> (Ordering, usize)
+    requires within { i < length list.now }
+    requires prices { ArePriced weights list.now }
+    requires price { price ≡ cost weights c.now }
+    requires same { take from (slice_index_or (circuits_of list.now) i []) ≡ take from c.now }
+    ensures order { result.0 ≡ program_cmp weights (slice_index_or (circuits_of list.now) i []) c.now }
+    ensures same { IsFront weights result.1 (slice_index_or (circuits_of list.now) i []) c.now }
+{
+    compare(&list[i], c, price, from, weights)
 }
 
 // The next number to look at, from low on and below high: the last of all at first, then the first of all, and from then on one
@@ -59,13 +92,15 @@ fn probe(low: usize, high: usize, count: usize) -> usize
     }
 }
 
-// How many of some circuits that are different and in order are before another one, and whether it is among them. What is known
-// to be the same as in the nearest ones on both sides is the same in those between, so that it isn't compared again.
-pub(crate) fn find(list: &[Vec<Inst>], c: &[Inst]) -> (usize, bool)
-    requires { AreOrdered (lists_of list.now) }
-    ensures place { result.0 ≡ place_of (lists_of list.now) c.now }
+// How many of some circuits that are different and in order are before another one of this price, and whether it is among them.
+// What is known to be the same as in the nearest ones on both sides is the same in those between, so that it isn't compared again.
+pub(crate) fn find(list: &[Priced], c: &[Inst], price: u128, weights: [u8; 4]) -> (usize, bool)
+    requires ordered { AreOrdered weights (circuits_of list.now) }
+    requires prices { ArePriced weights list.now }
+    requires price { price ≡ cost weights c.now }
+    ensures place { result.0 ≡ place_of weights (circuits_of list.now) c.now }
     ensures bound { result.0 ≤ length list.now }
-    ensures there { result.1 ≡ is_among (lists_of list.now) c.now }
+    ensures there { result.1 ≡ is_among (circuits_of list.now) c.now }
 {
     let mut found = false;
     let mut low = 0;
@@ -74,7 +109,8 @@ pub(crate) fn find(list: &[Vec<Inst>], c: &[Inst]) -> (usize, bool)
     let mut high_same = 0;
     while low < high {
         let middle = probe(low, high, list.len());
-        let (order, same) = compare_from(list, middle, c, low_same.min(high_same));
+        let (order, same) =
+            compare_from(list, middle, c, price, low_same.min(high_same), weights);
         if order.is_lt() {
             low = middle + 1;
             low_same = same;

@@ -1,24 +1,27 @@
 //! A queue: at most so many different circuits, in order.
-ghost use Rattle.std.specs.Prelude.{◌≡◌, ◌<◌, ◌≤◌, ◌-◌, ◌↔◌, ◌++◌, min, nat_lt, true, false, vec_len, vec_capacity, IsTrue, None, Some, [], ◌∷◌, length, take, drop, count_by, slice_get, IfOk, OnOk, OnErr, IfSome};
-ghost use Rattle.std.specs.List.{insert};
-ghost use Rattle.qz_circ.specs.ProgramCircuits.{ProgramCircuit, cost};
+ghost use Rattle.std.specs.Prelude.{◌≡◌, ◌<◌, ◌≤◌, ◌-◌, ◌↔◌, ◌++◌, min, nat_le, nat_lt, true, false, vec_len, vec_capacity, IsTrue, None, Some, [], ◌∷◌, length, map, take, drop, count_by, slice_get, IfOk, OnOk, OnErr, IfSome};
+ghost use Rattle.std.specs.List.{insert, filter};
+ghost use Rattle.qz_circ.specs.ProgramCircuits.{ProgramCircuit, AreWeights, ones, cost};
 ghost use Rattle.qz_circ.specs.Queue.{IsQueue, IsRefused, firsts};
 ghost use Rattle.qz_queue.specs.Bars.{IsBar};
 ghost use Rattle.qz_circ.specs.Vectors.{lists_of};
+ghost use Rattle.qz_queue.specs.Circuits.{circuits_of, ArePriced};
 
 use crate::bar::{Bar, bar_of};
 use crate::place::find;
-use qz_circ::{Inst, Memory};
+use crate::priced::Priced;
+use qz_circ::{Inst, Memory, price};
 use std::alloc::Global;
 use std::marker::Model;
 
-/// At most so many different circuits, in the order of programs: a cheaper one first, and of equally cheap ones that whose
-/// first different gate is earlier.
+/// At most so many different circuits, in the order of programs by some weights: a cheaper one first, of equally cheap ones a
+/// shorter one, and then that whose first different gate is earlier.
 #[derive(Drop)]
 pub struct Queue {
     alloc: Global,
     cap: usize,
-    list: Vec<Vec<Inst>>,
+    weights: [u8; 4],
+    list: Vec<Priced>,
 }
 
 impl Model for Queue {
@@ -27,14 +30,14 @@ impl Model for Queue {
 
     ghost Value = { QueueList };
 
-    ghost view = { λ q. queue_of q.cap q.list };
+    ghost view = { λ q. queue_of q.cap q.weights q.list };
 
-    ghost invariant = { λ q. IsHeld q.cap q.list };
+    ghost invariant = { λ q. IsHeld q.cap q.weights q.list };
 }
 
 // Puts a circuit in at a place, in a list that holds at most so many, and drops the last one where there are then too many.
 // There is room, so it always succeeds.
-fn put(list: &mut Vec<Vec<Inst>>, most: usize, place: usize, c: Vec<Inst>) -> bool
+fn put(list: &mut Vec<Priced>, most: usize, place: usize, c: Priced) -> bool
     requires room { most ≤ vec_capacity list.old }
     requires below { place < most }
     requires within { place ≤ vec_len list.old }
@@ -54,25 +57,26 @@ fn least(k: u64, n: usize) -> usize
 }
 
 // Moves the first n circuits into a vector that has room for them.
-fn take_front(list: &mut Vec<Vec<Inst>>, room: Vec<Vec<Inst>>, n: usize) -> Vec<Vec<Inst>>
+fn take_front(list: &mut Vec<Priced>, room: Vec<Vec<Inst>>, n: usize) -> Vec<Vec<Inst>>
     requires within { n ≤ vec_len list.old }
     requires empty { room.items ≡ [] }
     requires room { n ≤ vec_capacity room }
-    ensures taken { result.items ≡ take n list.old.items }
+    ensures taken { lists_of result.items ≡ circuits_of (take n list.old.items) }
     ensures rest { list.new.items ≡ drop n list.old.items }
     ensures capacity { vec_capacity list.new ≡ vec_capacity list.old }
 {
     let mut taken = room;
     for c in list.drain(..n) {
-        taken.push_reserved(c);
+        taken.push_reserved(c.gates);
     }
     taken
 }
 
 // Copies of circuits, in a vector that has room for this many.
-fn copies_of(alloc: Global, list: &[Vec<Inst>], most: usize) -> Result<Vec<Vec<Inst>>, Memory>
+fn copies_of(alloc: Global, list: &[Priced], most: usize) -> Result<Vec<Priced>, Memory>
     requires within { length list.now ≤ most }
-    ensures same { IfOk result (λ copies. lists_of copies.items ≡ lists_of list.now) }
+    ensures same { IfOk result (λ copies. circuits_of copies.items ≡ circuits_of list.now) }
+    ensures prices { IfOk result (λ copies. map (λ p. p.price) copies.items ≡ map (λ p. p.price) list.now) }
     ensures room { IfOk result (λ copies. most ≤ vec_capacity copies) }
 {
     let Ok(room) = Vec::with_capacity(alloc, most) else {
@@ -80,43 +84,88 @@ fn copies_of(alloc: Global, list: &[Vec<Inst>], most: usize) -> Result<Vec<Vec<I
     };
     let mut copies = room;
     for c in list {
-        let Ok(copy) = Vec::from_slice(alloc, c) else {
-            return Err(Memory);
-        };
-        copies.push_reserved(copy);
+        copies.push_reserved(c.copy(alloc)?);
     }
     Ok(copies)
 }
 
+// The first of circuits that has at most this many gates, if any.
+fn first_within(list: &[Priced], most: u64) -> Option<&Priced>
+    ensures first { IfSome result (λ p. slice_get (filter (λ c. nat_le (length c) most) (circuits_of list.now)) 0 ≡ Some p.now.gates.items) }
+    ensures none { result ≡ None → filter (λ c. nat_le (length c) most) (circuits_of list.now) ≡ [] }
+{
+    for p in list {
+        if p.gates.len() as u64 <= most {
+            return Some(p);
+        }
+    }
+    None
+}
+
 impl Queue {
-    /// An empty queue that holds at most this many circuits. Room for them all is made here.
-    pub fn new(alloc: Global, cap: u64) -> Result<Queue, Memory>
+    /// An empty queue that holds at most this many circuits, and orders them by these weights, of H, X, CX and rotations. Room for
+    /// them all is made here.
+    pub fn weighted(alloc: Global, cap: u64, weights: [u8; 4]) -> Result<Queue, Memory>
         requires some { 1 ≤ cap }
         requires few { cap ≤ 500 }
-        ensures { IfOk result (λ q. q ≡ record { cap = cap; list = [] }) }
+        requires weighed { AreWeights weights }
+        ensures { IfOk result (λ q. q ≡ record { cap = cap; weights = weights; list = [] }) }
     {
         let cap = cap as usize;
         match Vec::with_capacity(alloc, cap) {
-            Ok(list) => Ok(Queue { alloc, cap, list }),
+            Ok(list) => Ok(Queue {
+                alloc,
+                cap,
+                weights,
+                list,
+            }),
             Err(_) => Err(Memory),
         }
+    }
+
+    /// The same where each gate weighs 1.
+    pub fn new(alloc: Global, cap: u64) -> Result<Queue, Memory>
+        requires some { 1 ≤ cap }
+        requires few { cap ≤ 500 }
+        ensures { IfOk result (λ q. q ≡ record { cap = cap; weights = ones; list = [] }) }
+    {
+        Queue::weighted(alloc, cap, [1, 1, 1, 1])
+    }
+
+    /// The weights of H, X, CX and rotations, each from 1 to 100.
+    pub fn weights(&self) -> [u8; 4]
+        ensures value { result ≡ self.now.weights }
+        ensures lawful { IsQueue self.now }
+    {
+        self.weights
     }
 
     /// Puts a circuit in its place, and drops the last one where there are then too many. False, with nothing changed, where
     /// the circuit is there, or where as many earlier ones are there as the queue holds at most. It takes no memory.
     pub fn offer(&mut self, c: Vec<Inst>) -> bool
-        ensures list { self.new ≡ record self.old { list = firsts self.old.cap (c.items ∷ self.old.list) } }
+        ensures list { self.new ≡ record self.old { list = firsts self.old.weights self.old.cap (c.items ∷ self.old.list) } }
         ensures refused { (result ≡ false) ↔ IsRefused self.old c.items }
         ensures kept { result ≡ false → self.new ≡ self.old }
     {
-        let (place, found) = find(&self.list, &c);
+        let price = price(&c, self.weights);
+        self.offer_at(c, price)
+    }
+
+    /// The same of a circuit whose cost is known.
+    pub fn offer_at(&mut self, c: Vec<Inst>, price: u128) -> bool
+        requires { price ≡ cost self.old.weights c.items }
+        ensures list { self.new ≡ record self.old { list = firsts self.old.weights self.old.cap (c.items ∷ self.old.list) } }
+        ensures refused { (result ≡ false) ↔ IsRefused self.old c.items }
+        ensures kept { result ≡ false → self.new ≡ self.old }
+    {
+        let (place, found) = find(&self.list, &c, price, self.weights);
         if place == self.cap {
             return false;
         }
         if found {
             return false;
         }
-        put(&mut self.list, self.cap, place, c)
+        put(&mut self.list, self.cap, place, Priced { price, gates: c })
     }
 
     /// Takes out the first k circuits, or all where there are fewer. After an error nothing has changed.
@@ -141,18 +190,20 @@ impl Queue {
         Ok(Queue {
             alloc: self.alloc,
             cap: self.cap,
+            weights: self.weights,
             list,
         })
     }
 
-    /// Takes in all circuits of another queue with the same greatest number. It takes no memory.
+    /// Takes in all circuits of another queue with the same greatest number and the same weights. It takes no memory.
     pub fn merge(&mut self, other: Queue)
-        requires { self.old.cap ≡ other.cap }
-        ensures { self.new ≡ record self.old { list = firsts self.old.cap (self.old.list ++ other.list) } }
+        requires cap { self.old.cap ≡ other.cap }
+        requires weights { self.old.weights ≡ other.weights }
+        ensures { self.new ≡ record self.old { list = firsts self.old.weights self.old.cap (self.old.list ++ other.list) } }
     {
         let _ = &self.list;
         for c in other.list {
-            self.offer(c);
+            self.offer_at(c.gates, c.price);
         }
     }
 
@@ -163,7 +214,7 @@ impl Queue {
         ensures lawful { IsQueue self.now }
     {
         match self.list.first() {
-            Some(c) => Some(c),
+            Some(c) => Some(&c.gates),
             None => None,
         }
     }
@@ -176,27 +227,40 @@ impl Queue {
         self.list.len() as u64
     }
 
-    /// Whether it refuses this circuit: the circuit is there, or as many earlier ones are there as the queue holds at most. To
-    /// offer it would change nothing.
-    pub fn refuses(&self, c: &[Inst]) -> bool
-        ensures exact { IsTrue result ↔ IsRefused self.now c.now }
-        ensures same { IsTrue result → firsts self.now.cap (c.now ∷ self.now.list) ≡ self.now.list }
+    /// The first circuit of at most this many gates, if any.
+    pub fn best_within(&self, most: u64) -> Option<&[Inst]>
+        ensures first { IfSome result (λ b. slice_get (filter (λ c. nat_le (length c) most) self.now.list) 0 ≡ Some b.now) }
+        ensures none { result ≡ None → filter (λ c. nat_le (length c) most) self.now.list ≡ [] }
+        ensures lawful { IsQueue self.now }
     {
-        let (place, found) = find(&self.list, c);
+        match first_within(&self.list, most) {
+            Some(c) => Some(&c.gates),
+            None => None,
+        }
+    }
+
+    /// Whether it refuses this circuit, whose cost is known: the circuit is there, or as many earlier ones are there as the queue
+    /// holds at most. To offer it would change nothing.
+    pub fn refuses(&self, c: &[Inst], price: u128) -> bool
+        requires { price ≡ cost self.now.weights c.now }
+        ensures exact { IsTrue result ↔ IsRefused self.now c.now }
+        ensures same { IsTrue result → firsts self.now.weights self.now.cap (c.now ∷ self.now.list) ≡ self.now.list }
+    {
+        let (place, found) = find(&self.list, c, price, self.weights);
         found || place == self.cap
     }
 
     /// Whether as many circuits of less than this cost are there as the queue holds at most, so that it refuses each circuit of
     /// this cost or more.
-    pub fn is_closed_to_cost(&self, n: u64) -> bool
-        ensures exact { IsTrue result ↔ (self.now.cap ≤ count_by (λ d. nat_lt (cost d) n) self.now.list) }
-        ensures refused { IsTrue result → (c : ProgramCircuit) → n ≤ cost c → firsts self.now.cap (c ∷ self.now.list) ≡ self.now.list }
+    pub fn is_closed_to_cost(&self, n: u128) -> bool
+        ensures exact { IsTrue result ↔ (self.now.cap ≤ count_by (λ d. nat_lt (cost self.now.weights d) n) self.now.list) }
+        ensures refused { IsTrue result → (c : ProgramCircuit) → n ≤ cost self.now.weights c → firsts self.now.weights self.now.cap (c ∷ self.now.list) ≡ self.now.list }
     {
         if self.list.len() < self.cap {
             return false;
         }
         match self.list.last() {
-            Some(c) => (c.len() as u64) < n,
+            Some(c) => c.price < n,
             None => false,
         }
     }
@@ -210,7 +274,7 @@ impl Queue {
             return None;
         }
         match self.list.last() {
-            Some(last) => bar_of(last, c),
+            Some(last) => bar_of(&last.gates, last.price, c),
             None => None,
         }
     }

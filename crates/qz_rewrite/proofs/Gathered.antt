@@ -72,7 +72,7 @@ gathered chosen after ((false, g) ∷ rest) v h =
         ap (run_gates (all_of rest)) (past g after (run_gates chosen v) parts.1 ∙ ap (run_gates after) (past g chosen v parts.0)) ∙ more k
 
 -- the marked gates and the rest are all gates
-all_marked : (i : ℕ) (ps : List ℕ) (c : ProgramCircuit) → all_of (marked i ps c) ++ drop (length (marked i ps c)) c ≡ c
+pub all_marked : (i : ℕ) (ps : List ℕ) (c : ProgramCircuit) → all_of (marked i ps c) ++ drop (length (marked i ps c)) c ≡ c
 unfolding marked
 all_marked i [] c = refl
 all_marked i (p ∷ ps) [] = refl

@@ -1,5 +1,6 @@
 //! Queues of circuits, and plans of searches.
 ghost use Rattle.std.specs.Prelude.{◌≡◌, IfSome};
+ghost use Rattle.qz_circ.specs.ProgramCircuits.{ones};
 
 use qz_circ::Inst;
 use qz_queue::{Queue, Seen};
@@ -38,7 +39,8 @@ fn takes_the_first(queue: &mut Queue) -> Option<bool> {
 
 // A queue of at most two circuits that holds one.
 fn queue_with(alloc: Global, c: &[Inst]) -> Option<Queue>
-    ensures { IfSome result (λ queue. queue.cap ≡ 2) }
+    ensures cap { IfSome result (λ queue. queue.cap ≡ 2) }
+    ensures weights { IfSome result (λ queue. queue.weights ≡ ones) }
 {
     let mut queue = Queue::new(alloc, 2).ok()?;
     let copy = Vec::from_slice(alloc, c).ok()?;
@@ -47,8 +49,9 @@ fn queue_with(alloc: Global, c: &[Inst]) -> Option<Queue>
 }
 
 // Which circuits a full queue is closed to, and that it takes one that is earlier.
+#[tactic(auto, unfolding(qz_circ::specs::ProgramCircuits::cost))]
 fn is_closed(queue: &Queue) -> bool {
-    queue.is_closed_to_cost(2) && !queue.is_closed_to_cost(1) && !queue.refuses(&[])
+    queue.is_closed_to_cost(2) && !queue.is_closed_to_cost(1) && !queue.refuses(&[], 0)
 }
 
 // Merges a queue that holds one circuit into another.
@@ -70,6 +73,19 @@ fn queue_row(alloc: Global) -> Option<bool> {
     Some(kept && taken && merged)
 }
 
+// Where X weighs 5, two H are before one X, which has fewer gates.
+fn the_cheaper_one_is_first(alloc: Global) -> Option<bool> {
+    let mut queue = Queue::weighted(alloc, 2, [1, 5, 1, 1]).ok()?;
+    let both = offer(alloc, &mut queue, &[Inst::X(0)])?
+        && offer(alloc, &mut queue, &[Inst::H(0), Inst::H(0)])?;
+    let weights = queue.weights() == [1, 5, 1, 1];
+    let short = match queue.best_within(1) {
+        Some(first) => first == [Inst::X(0)],
+        None => false,
+    };
+    Some(both && weights && short && is_best(&queue, &[Inst::H(0), Inst::H(0)]))
+}
+
 // Puts two circuits into a set, one of them twice.
 fn seen_row(alloc: Global) -> Option<bool> {
     let mut seen = Seen::new(alloc);
@@ -86,6 +102,7 @@ fn seen_row(alloc: Global) -> Option<bool> {
 #[test]
 fn a_queue_of_two_keeps_the_first_and_a_set_all(rt: HostRuntime) {
     assert!(rt; queue_row(rt.alloc()) == Some(true));
+    assert!(rt; the_cheaper_one_is_first(rt.alloc()) == Some(true));
     assert!(rt; seen_row(rt.alloc()) == Some(true));
 }
 
@@ -106,6 +123,30 @@ fn is_plan(rounds: u64, batch: u64, cap: u64, slack: u64) -> bool {
             && plan.slack() == slack,
         Err(_) => false,
     }
+}
+
+// Whether a plan with this slack and these weights has this fault.
+fn has_weight_fault(slack: u64, weights: [u64; 4], wanted: PlanFault) -> bool {
+    match Plan::weighted(16, 8, 100, slack, weights) {
+        Ok(_) => false,
+        Err(found) => found == wanted,
+    }
+}
+
+// Whether these weights make a plan, which tells them again.
+fn is_weighted(weights: [u64; 4], wanted: [u8; 4]) -> bool {
+    match Plan::weighted(16, 8, 100, 0, weights) {
+        Ok(plan) => plan.weights() == wanted,
+        Err(_) => false,
+    }
+}
+
+#[test]
+fn gates_weigh_from_1_to_100(rt: HostRuntime) {
+    assert!(rt; is_weighted([1, 1, 100, 1], [1, 1, 100, 1]));
+    assert!(rt; has_weight_fault(0, [1, 1, 101, 1], PlanFault::Weight));
+    assert!(rt; has_weight_fault(4, [1, 1, 1, 0], PlanFault::Weight));
+    assert!(rt; has_weight_fault(5, [0, 1, 1, 1], PlanFault::Slack));
 }
 
 #[test]

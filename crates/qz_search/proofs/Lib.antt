@@ -16,3 +16,4 @@ pub mod ClassRows
 pub mod TableSearch
 pub mod RoundSteps
 pub mod Barred
+pub mod StepCosts

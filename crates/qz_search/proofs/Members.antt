@@ -6,7 +6,7 @@ use Rattle.std.specs.List.{filter, flat_map}
 use Rattle.std.specs.Cmp.{both_ways}
 use Rattle.std.proofs.lemmas.Cmp.{tied_itself}
 use Rattle.std.proofs.lemmas.List.{take-append-drop}
-use Rattle.qz_circ.specs.ProgramCircuits.{ProgramCircuit, program_cmp}
+use Rattle.qz_circ.specs.ProgramCircuits.{ProgramCircuit, ones, program_cmp}
 use Rattle.qz_circ.specs.Search.{is_among}
 use Rattle.qz_circ.proofs.ProgramOrder.{program_cmp_total, program_cmp_exact}
 use Rattle.qz_queue.proofs.DifferentOnes.{Has, has_append, has_left, has_right}
@@ -51,18 +51,18 @@ module _ {K : Type 0} where
 -- membership as a test, and by places
 pub among_has : (cs : List ProgramCircuit) (c : ProgramCircuit) → is_among cs c ≡ true → Has cs c
 among_has [] c h = cc
-among_has (d ∷ ds) c h = by (program_cmp c d) refl h (among_has ds c)
+among_has (d ∷ ds) c h = by (program_cmp ones c d) refl h (among_has ds c)
   where
-    by : (r : Ordering) → program_cmp c d ≡ r → is_eq r || is_among ds c ≡ true → (is_among ds c ≡ true → Has ds c) → (d ≡ c) ⊎ Has ds c
+    by : (r : Ordering) → program_cmp ones c d ≡ r → is_eq r || is_among ds c ≡ true → (is_among ds c ≡ true → Has ds c) → (d ≡ c) ⊎ Has ds c
     by Less e g ih = inr (ih g)
-    by Equal e g ih = inl (sym (program_cmp_exact c d e))
+    by Equal e g ih = inl (sym (program_cmp_exact ones c d e))
     by Greater e g ih = inr (ih g)
 
 pub has_among : (cs : List ProgramCircuit) (c : ProgramCircuit) → Has cs c → is_among cs c ≡ true
 has_among [] c h = absurd h
 has_among (d ∷ ds) c (inl e) =
-    (λ i. is_eq (program_cmp c (e i)) || is_among ds c) ∙ (λ i. is_eq (tied_itself program_cmp_total c i) || is_among ds c)
-has_among (d ∷ ds) c (inr h) = (λ i. eq_by_cmp program_cmp c d || has_among ds c h i) ∙ or_true (eq_by_cmp program_cmp c d)
+    (λ i. is_eq (program_cmp ones c (e i)) || is_among ds c) ∙ (λ i. is_eq (tied_itself (program_cmp_total ones) c i) || is_among ds c)
+has_among (d ∷ ds) c (inr h) = (λ i. eq_by_cmp (program_cmp ones) c d || has_among ds c h i) ∙ or_true (eq_by_cmp (program_cmp ones) c d)
   where
     or_true : (b : Bool) → b || true ≡ true
     or_true true = refl

@@ -3,7 +3,7 @@ use Rattle.std.proofs.Common.{◌≡◌, ◌≢◌, Option, Some, None, Vec, Mat
 use Rattle.std.specs.List.{AllByRecursion}
 use Rattle.std.proofs.lemmas.List.{length-take}
 use Rattle.qz_circ.specs.Circuit.{Circuit}
-use Rattle.qz_circ.specs.ProgramCircuits.{ProgramCircuit, IsProgramGate, IsProgramCircuit, EquivalentProgramCircuits, cost, program_cmp}
+use Rattle.qz_circ.specs.ProgramCircuits.{ProgramCircuit, IsProgramGate, IsProgramCircuit, EquivalentProgramCircuits, ones, cost, program_cmp}
 use Rattle.qz_circ.specs.Queue.{QueueList, IsQueue, different, firsts}
 use Rattle.qz_circ.specs.Replacement.{children}
 use Rattle.qz_circ.specs.Search.{PlanNumbers, IsPlan, start, after}
@@ -32,14 +32,14 @@ module _ (classes : List (List Circuit)) (c : ProgramCircuit) where
   }
 
   -- the beginning
-  pub begun : (s : SearchParts) → IsSearch classes c s.rules s.plan → s.left ≡ s.plan.rounds → s.seen ≡ [] → s.queue ≡ record { cap = s.plan.cap; list = firsts s.plan.cap (c ∷ []) } → s.best ≡ c → IsBetweenRounds classes c s
+  pub begun : (s : SearchParts) → IsSearch classes c s.rules s.plan → s.left ≡ s.plan.rounds → s.seen ≡ [] → s.queue ≡ record { cap = s.plan.cap; weights = s.plan.weights; list = firsts s.plan.weights s.plan.cap (c ∷ []) } → s.best ≡ c → IsBetweenRounds classes c s
   unfolding different
   begun s of left seen queue best = record {
     search = of;
     short = omega (arith, of.few, ap length best);
     rounds = 0;
     counted = omega (arith, left);
-    at = record { seen_is = seen; queue_is = one_waits s.queue s.plan.cap c of.lawful.some_held queue; best_is = best };
+    at = record { seen_is = seen; queue_is = one_waits s.queue s.plan.weights s.plan.cap c of.lawful.some_held queue; best_is = best };
   }
 
   -- the end
@@ -49,10 +49,11 @@ module _ (classes : List (List Circuit)) (c : ProgramCircuit) where
       let last : (h.rounds ≡ s.plan.rounds) ⊎ (s.queue.list ≡ []) = elim ended [ inl e ↦ inl (omega (arith, e, h.counted)) | inr e ↦ inr e ] in
       let found = found_at (children_by_table s.rules) s.plan h.rounds c s.seen s.queue s.best (omega (arith, h.counted)) h.at last ∙ of.same in
       let equivalent : (q : ℕ) → q ≤ 64 → AllByRecursion (IsProgramGate q) c → IsProgramCircuit q s.best × EquivalentProgramCircuits q c s.best = λ q few gates.
-      answer_equivalent (children classes) s.plan q c s.best (children_equivalent of.sound.0 classes of.sound.1 of.sound.2 q) (record { few = few; gates = gates }) found in
+      answer_equivalent (children classes) s.plan q c s.best (children_equivalent of.sound.0 classes of.sound.1 of.sound.2 q) (record { few = few; gates = gates }) of.few found in
       record {
         best = found;
         cheap = found_cheap (children classes) s.plan c s.best found;
+        short = h.short;
         lawful = λ q few gates. (equivalent q few gates).0.gates;
         equivalent = λ q few gates. (equivalent q few gates).1;
         complete = λ complete. found_first (children classes) s.plan c s.best found complete;
@@ -60,7 +61,7 @@ module _ (classes : List (List Circuit)) (c : ProgramCircuit) where
 
   -- a round's beginning
   pub taken : (s : SearchParts) (seen batch : List ProgramCircuit) (most : ℕ) (queue : QueueList) → IsBetweenRounds classes c s → IsQueue s.queue → s.left ≢ 0 → batch ≡ take s.plan.batch s.queue.list → queue ≡ record s.queue { list = drop s.plan.batch s.queue.list }
-      → ((all : List ProgramCircuit) → s.seen ≡ different program_cmp all → seen ≡ different program_cmp (all ++ batch)) → most ≡ cost s.best + s.plan.slack
+      → ((all : List ProgramCircuit) → s.seen ≡ different (program_cmp ones) all → seen ≡ different (program_cmp ones) (all ++ batch)) → most ≡ cost s.plan.weights s.best + s.plan.slack
       → IsInRound classes c batch (record { rules = s.rules; plan = s.plan; left = s.left - 1; seen = seen; most = most; queue = queue; best = s.best })
   taken s seen batch most queue h lawful some batch_is queue_is seen_is most_is =
       let of = h.search in
@@ -72,14 +73,14 @@ module _ (classes : List (List Circuit)) (c : ProgramCircuit) where
       let one : n + 1 ≡ suc n = omega arith in
       subst (λ state. IsAt s.plan state seen ends.queue ends.best) (sym (ap (λ k. after next s.plan k (start c)) one ∙ after_more next s.plan n (start c)))
       (round_at next s.plan (after next s.plan n (start c)) s.seen seen s.queue queue ends.queue s.best batch most batch_is queue_is seen_is most_is refl h.at ends.best refl) in
-      let waiting = waiting_fit next s.plan of.keeps of.lawful n c s.seen s.queue s.best of.gates of.few h.at in
+      let waiting = waiting_fit next s.plan of.keeps n c s.seen s.queue s.best of.gates of.few h.at in
       record {
         fit = λ k there. waiting.0 k (has_contains s.queue.list k (has_take s.plan.batch s.queue.list k (contains_has (take s.plan.batch s.queue.list) k (subst (λ cs. Contains cs k) batch_is there))));
         few = omega (arith, of.lawful.few_taken, length-take s.plan.batch s.queue.list, ap length batch_is);
         lawful = queue_rest s.queue queue s.plan.batch lawful queue_is;
         further = record {
           search = of;
-          short = (waiting_fit next s.plan of.keeps of.lawful (n + 1) c seen ends.queue ends.best of.gates of.few at).1;
+          short = (waiting_fit next s.plan of.keeps (n + 1) c seen ends.queue ends.best of.gates of.few at).1;
           rounds = n + 1;
           counted = omega (arith, h.counted, some);
           at = at;

@@ -14,4 +14,4 @@ use Rattle.qz_search.proofs.RoundLaws.{same_found}
 pub table_found : (classes : List (List Circuit)) → (n : ℕ) × (n ≤ 3) × AreSoundClasses n classes → (table : ProgramCircuit → List ProgramCircuit) (plan : PlanNumbers) (c : ProgramCircuit) → AreAlike table (children classes) → IsPlan plan → AllByRecursion (IsProgramGate 64) c → length c ≤ 20000
     → best_found table plan c ≡ best_found (children classes) plan c
 table_found classes sound table plan c alike lawful gates few =
-    same_found table (children classes) plan (known table (children classes) alike) (table_keeps_gates sound.0 classes sound.1 sound.2 table alike) lawful c gates few
+    same_found table (children classes) plan (known table (children classes) alike) (table_keeps_gates sound.0 classes sound.1 sound.2 table alike) c gates few

@@ -1,4 +1,5 @@
 pub mod PlanFaults
+pub mod Costs
 pub mod Offers
 pub mod Circuits
 pub mod Classes

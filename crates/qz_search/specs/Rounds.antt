@@ -6,7 +6,7 @@ use Rattle.qz_circ.specs.Circuit.{Circuit}
 use Rattle.qz_circ.specs.ProgramCircuits.{ProgramCircuit, IsProgramGate, EquivalentProgramCircuits, cost, program_cmp}
 use Rattle.qz_circ.specs.Queue.{QueueList, IsQueue}
 use Rattle.qz_circ.specs.Replacement.{children}
-use Rattle.qz_circ.specs.Search.{PlanNumbers, IsPlan, start, earliest, after, best_found, IsComplete, IsReached, most_taken}
+use Rattle.qz_circ.specs.Search.{PlanNumbers, IsPlan, start, earliest, is_short, after, best_found, IsComplete, IsReached, most_taken}
 use Rattle.qz_rewrite.specs.SoundClasses.{AreSoundClasses}
 use Rattle.qz_search.specs.Tables.{TableParts, children_by_table}
 use Rattle.qz_search.specs.Offers.{is_new, offered_to, AreFit, IsAt, KeepsGates}
@@ -25,11 +25,11 @@ pub record SearchParts : Type 0 where
 
 -- the children that a round offers of the circuits that it took: those that are new
 abbrev pub new_children : SearchParts → List ProgramCircuit → List ProgramCircuit
-new_children s batch = filter (is_new s.seen s.most) (flat_map (children_by_table s.rules) batch)
+new_children s batch = filter (is_new s.queue.weights s.seen s.most) (flat_map (children_by_table s.rules) batch)
 
 -- the search once these circuits were offered, with the best one of all so far
 abbrev pub advanced : SearchParts → List ProgramCircuit → SearchParts
-advanced s cs = record s { queue = offered_to s.queue cs; best = earliest s.best (offered_to s.queue cs).list }
+advanced s cs = record s { queue = offered_to s.queue cs; best = earliest s.queue.weights s.best (filter is_short (offered_to s.queue cs).list) }
 
 module _ (classes : List (List Circuit)) (c : ProgramCircuit) where
   -- the search is one from this circuit by sound classes of rules, in whichever order its children come
@@ -59,7 +59,8 @@ module _ (classes : List (List Circuit)) (c : ProgramCircuit) where
   -- the search by this plan finds this circuit
   pub record IsFound (plan : PlanNumbers) (d : ProgramCircuit) : Type 0 where
     pub best : d ≡ best_found (children classes) plan c
-    pub cheap : length d ≤ length c
+    pub cheap : cost plan.weights d ≤ cost plan.weights c
+    pub short : length d ≤ most_gates
     pub lawful : (q : ℕ) → q ≤ most_qubits → AllByRecursion (IsProgramGate q) c → AllByRecursion (IsProgramGate q) d
     pub equivalent : (q : ℕ) → q ≤ most_qubits → AllByRecursion (IsProgramGate q) c → EquivalentProgramCircuits q c d
-    pub complete : IsComplete (children classes) plan c → (x : ProgramCircuit) → IsReached (children classes) (cost d + plan.slack) c x → is_lt (program_cmp x d) ≡ false
+    pub complete : IsComplete (children classes) plan c → (x : ProgramCircuit) → length x ≤ most_gates → IsReached (children classes) plan.weights (cost plan.weights d + plan.slack) c x → is_lt (program_cmp plan.weights x d) ≡ false

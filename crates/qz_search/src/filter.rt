@@ -1,9 +1,13 @@
 //! Which circuits are new.
-ghost use Rattle.std.specs.Prelude.{◌≡◌};
+ghost use Rattle.std.specs.Prelude.{◌≡◌, ℕ, List};
+ghost use Rattle.qz_circ.specs.ProgramCircuits.{cost};
 ghost use Rattle.qz_search.specs.Offers.{is_new};
 
 use qz_circ::Inst;
 use qz_queue::Seen;
+
+// The most gates that a new circuit may have.
+const MOST_GROWN: usize = 20_004;
 
 // The circuits that were taken, and what a new one may cost.
 #[derive(Drop)]
@@ -13,10 +17,10 @@ pub(crate) struct Filter {
 }
 
 impl Filter {
-    // Whether a circuit is new: none of those that were taken, and of at most this cost.
-    pub(crate) fn passes(&self, c: &[Inst]) -> bool
-        ensures { result ≡ is_new self.now.seen self.now.most c.now }
+    // Whether a circuit of this cost is new: none of those that were taken, not dearer than it may be, and not too long.
+    pub(crate) fn passes(&self, c: &[Inst], n: u64) -> bool
+        ensures { (weights : List ℕ) → n ≡ cost weights c.now → result ≡ is_new weights self.now.seen self.now.most c.now }
     {
-        c.len() as u64 <= self.most && !self.seen.contains(c)
+        n <= self.most && c.len() <= MOST_GROWN && !self.seen.contains(c)
     }
 }

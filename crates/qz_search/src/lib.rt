@@ -4,6 +4,7 @@
 mod children;
 mod circuits;
 mod class;
+mod costs;
 mod filter;
 pub mod laws;
 mod offer;

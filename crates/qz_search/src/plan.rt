@@ -1,7 +1,9 @@
 //! The plan of a search.
-ghost use Rattle.std.specs.Prelude.{◌≡◌, ◌↔◌, IsOk, IfOk, Some};
+ghost use Rattle.std.specs.Prelude.{◌≡◌, ◌↔◌, ◌∷◌, [], IsOk, IfOk, Some};
+ghost use Rattle.std.specs.List.{list_any};
+ghost use Rattle.qz_circ.specs.ProgramCircuits.{ones};
 ghost use Rattle.qz_circ.specs.Search.{IsPlan};
-ghost use Rattle.qz_search.specs.PlanFaults.{plan_refusal};
+ghost use Rattle.qz_search.specs.PlanFaults.{is_no_weight, plan_refusal};
 
 use std::marker::Model;
 
@@ -14,8 +16,11 @@ const MOST_HELD: u64 = 500;
 // The most circuits that all rounds together take.
 const MOST_TAKEN_IN_ALL: u64 = 4096;
 
-// The most gates that a child may have more than the best circuit.
+// The most that a child may cost more than the best circuit.
 const MOST_SLACK: u64 = 4;
+
+// The most that a gate may weigh.
+const MOST_WEIGHT: u64 = 100;
 
 /// Which of the numbers of a plan is refused.
 #[derive(Clone, Copy, Debug, PartialEq, Eq)]
@@ -26,18 +31,21 @@ pub enum PlanFault {
     Cap,
     /// All rounds together take more than 4,096 circuits.
     Rounds,
-    /// A child may cost over 4 gates more than the best circuit.
+    /// A child may cost over 4 more than the best circuit.
     Slack,
+    /// A gate weighs 0 or more than 100.
+    Weight,
 }
 
-/// How many rounds a search has, how many circuits each takes, how many the queue holds at most, and how many gates more than
-/// the best circuit a child may have.
+/// How many rounds a search has, how many circuits each takes, how many the queue holds at most, how much more than the best
+/// circuit a child may cost, and what gates weigh.
 #[derive(Clone, Copy, Debug, PartialEq, Eq)]
 pub struct Plan {
     rounds: u64,
     batch: u64,
     cap: u64,
     slack: u64,
+    weights: [u8; 4],
 }
 
 impl Model for Plan {
@@ -45,17 +53,38 @@ impl Model for Plan {
 
     ghost Value = { PlanNumbers };
 
-    ghost view = { λ p. record { rounds = p.rounds; batch = p.batch; cap = p.cap; slack = p.slack } };
+    ghost view = { λ p. record { rounds = p.rounds; batch = p.batch; cap = p.cap; slack = p.slack; weights = p.weights } };
 
-    ghost invariant = { λ p. IsPlan (record { rounds = p.rounds; batch = p.batch; cap = p.cap; slack = p.slack }) };
+    ghost invariant = { λ p. IsPlan (record { rounds = p.rounds; batch = p.batch; cap = p.cap; slack = p.slack; weights = p.weights }) };
 
-    ghost inverse = { λ p. record { rounds = p.rounds; batch = p.batch; cap = p.cap; slack = p.slack } };
+    ghost inverse = { λ p. record { rounds = p.rounds; batch = p.batch; cap = p.cap; slack = p.slack; weights = p.weights } };
+}
+
+// Whether a number is no weight of a gate.
+#[tactic(auto, using(std::proofs::lemmas::Bool::Decides::nat_tests))]
+fn is_no_weight(w: u64) -> bool
+    ensures { result ≡ is_no_weight w }
+{
+    w < 1 || w > MOST_WEIGHT
+}
+
+// Whether one of these numbers is none.
+fn has_no_weight(weights: [u64; 4]) -> bool
+    ensures { result ≡ list_any is_no_weight weights }
+{
+    weights.iter().any(|w| is_no_weight(*w))
 }
 
 // The first of these numbers that is refused, if any.
 #[tactic(auto, using(std::proofs::lemmas::Bool::Decides::nat_tests), unfolding(crate::specs::PlanFaults::plan_refusal))]
-fn refused(rounds: u64, batch: u64, cap: u64, slack: u64) -> Option<PlanFault>
-    ensures { result ≡ plan_refusal (record { rounds = rounds; batch = batch; cap = cap; slack = slack }) }
+fn refused(
+    rounds: u64,
+    batch: u64,
+    cap: u64,
+    slack: u64,
+    weights: [u64; 4],
+) -> Option<PlanFault>
+    ensures { result ≡ plan_refusal (record { rounds = rounds; batch = batch; cap = cap; slack = slack; weights = weights }) }
 {
     if batch < 1 || batch > MOST_TAKEN {
         return Some(PlanFault::Batch);
@@ -69,25 +98,57 @@ fn refused(rounds: u64, batch: u64, cap: u64, slack: u64) -> Option<PlanFault>
     if slack > MOST_SLACK {
         return Some(PlanFault::Slack);
     }
+    if has_no_weight(weights) {
+        return Some(PlanFault::Weight);
+    }
     None
 }
 
+// Weights as bytes, which hold each of them.
+fn as_bytes(weights: [u64; 4]) -> [u8; 4]
+    requires { list_any is_no_weight weights ≡ false }
+    ensures { result ≡ weights }
+{
+    [
+        weights[0] as u8,
+        weights[1] as u8,
+        weights[2] as u8,
+        weights[3] as u8,
+    ]
+}
+
 impl Plan {
-    /// The plan with these numbers, or the first of them that is refused.
-    pub fn new(rounds: u64, batch: u64, cap: u64, slack: u64) -> Result<Plan, PlanFault>
-        ensures accepted { IfOk result (λ p. p ≡ record { rounds = rounds; batch = batch; cap = cap; slack = slack }) }
-        ensures lawful { IsOk result ↔ IsPlan (record { rounds = rounds; batch = batch; cap = cap; slack = slack }) }
-        ensures refused { (fault : PlanFault) → (result ≡ Err fault) ↔ (plan_refusal (record { rounds = rounds; batch = batch; cap = cap; slack = slack }) ≡ Some fault) }
+    /// The plan with these numbers and these weights of H, X, CX and rotations, or the first of them that is refused.
+    pub fn weighted(
+        rounds: u64,
+        batch: u64,
+        cap: u64,
+        slack: u64,
+        weights: [u64; 4],
+    ) -> Result<Plan, PlanFault>
+        ensures accepted { IfOk result (λ p. p ≡ record { rounds = rounds; batch = batch; cap = cap; slack = slack; weights = weights }) }
+        ensures lawful { IsOk result ↔ IsPlan (record { rounds = rounds; batch = batch; cap = cap; slack = slack; weights = weights }) }
+        ensures refused { (fault : PlanFault) → (result ≡ Err fault) ↔ (plan_refusal (record { rounds = rounds; batch = batch; cap = cap; slack = slack; weights = weights }) ≡ Some fault) }
     {
-        match refused(rounds, batch, cap, slack) {
+        match refused(rounds, batch, cap, slack, weights) {
             Some(fault) => Err(fault),
             None => Ok(Plan {
                 rounds,
                 batch,
                 cap,
                 slack,
+                weights: as_bytes(weights),
             }),
         }
+    }
+
+    /// The same where each gate weighs 1.
+    pub fn new(rounds: u64, batch: u64, cap: u64, slack: u64) -> Result<Plan, PlanFault>
+        ensures accepted { IfOk result (λ p. p ≡ record { rounds = rounds; batch = batch; cap = cap; slack = slack; weights = ones }) }
+        ensures lawful { IsOk result ↔ IsPlan (record { rounds = rounds; batch = batch; cap = cap; slack = slack; weights = ones }) }
+        ensures refused { (fault : PlanFault) → (result ≡ Err fault) ↔ (plan_refusal (record { rounds = rounds; batch = batch; cap = cap; slack = slack; weights = ones }) ≡ Some fault) }
+    {
+        Plan::weighted(rounds, batch, cap, slack, [1, 1, 1, 1])
     }
 
     /// How many rounds there are.
@@ -114,11 +175,18 @@ impl Plan {
         self.cap
     }
 
-    /// How many gates more than the best circuit a child may have, at most 4.
+    /// How much more than the best circuit a child may cost, at most 4.
     pub fn slack(&self) -> u64
         ensures value { result ≡ self.now.slack }
         ensures lawful { IsPlan self.now }
     {
         self.slack
+    }
+    /// The weights of H, X, CX and rotations, each from 1 to 100.
+    pub fn weights(&self) -> [u8; 4]
+        ensures value { result ≡ self.now.weights }
+        ensures lawful { IsPlan self.now }
+    {
+        self.weights
     }
 }

@@ -6,7 +6,7 @@ ghost use Rattle.qz_circ.specs.Circuit.{Circuit};
 ghost use Rattle.qz_circ.specs.ProgramCircuits.{ProgramCircuit, IsProgramGate, EquivalentProgramCircuits, cost, program_cmp};
 ghost use Rattle.qz_circ.specs.Queue.{IsQueue};
 ghost use Rattle.qz_circ.specs.Replacement.{children};
-ghost use Rattle.qz_circ.specs.Search.{earliest, best_found, IsComplete, IsReached};
+ghost use Rattle.qz_circ.specs.Search.{earliest, is_short, best_found, IsComplete, IsReached};
 ghost use Rattle.qz_circ.specs.Vectors.{lists_of};
 ghost use Rattle.qz_search.specs.Offers.{is_new, offered_to, AreFit};
 ghost use Rattle.qz_search.specs.Tables.{children_by_table};
@@ -18,7 +18,7 @@ use crate::filter::Filter;
 use crate::offer::{add_all, copy_of, earlier, offer_batch};
 use crate::plan::Plan;
 use crate::prepared::Prepared;
-use qz_circ::{Inst, Memory};
+use qz_circ::{Inst, Memory, cost};
 use qz_match::Neighbours;
 use qz_queue::{Queue, Seen};
 use qz_rulefile::Rules;
@@ -54,7 +54,7 @@ impl Rounds {
         ensures plan { IfOk result (λ s. s.plan ≡ plan) }
     {
         let rules = Prepared::of(alloc, rules)?;
-        let mut queue = Queue::new(alloc, plan.cap())?;
+        let mut queue = Queue::weighted(alloc, plan.cap(), plan.weights())?;
         queue.offer(copy_of(alloc, c)?);
         let best = copy_of(alloc, c)?;
         Ok(Rounds {
@@ -91,7 +91,7 @@ impl Rounds {
         }
         let batch = self.queue.take_batch(self.plan.batch())?;
         add_all(alloc, &mut self.test.seen, &batch)?;
-        self.test.most = self.best.len() as u64 + self.plan.slack();
+        self.test.most = cost(&self.best, self.plan.weights()) + self.plan.slack();
         self.left -= 1;
         Ok(Some(batch))
     }
@@ -108,7 +108,7 @@ impl Rounds {
         requires lawful { IsQueue queue.old }
         requires gates { AllByRecursion (IsProgramGate most_qubits) c.now }
         requires short { length c.now ≤ 20004 }
-        ensures { OnOk result (queue.new ≡ offered_to queue.old (filter (is_new self.now.seen self.now.most) (children_by_table self.now.rules c.now))) }
+        ensures { OnOk result (queue.new ≡ offered_to queue.old (filter (is_new queue.old.weights self.now.seen self.now.most) (children_by_table self.now.rules c.now))) }
     {
         children::offer_children(alloc, &self.rules, neighbours, &self.test, c, queue)
     }
@@ -137,7 +137,7 @@ impl Rounds {
 
     /// Ends a round with a queue to which its children were offered.
     pub fn end_round(&mut self, alloc: Global, queue: Queue) -> Result<(), Memory>
-        ensures { OnOk result (self.new ≡ record self.old { queue = queue; best = earliest self.old.best queue.list }) }
+        ensures { OnOk result (self.new ≡ record self.old { queue = queue; best = earliest queue.weights self.old.best (filter is_short queue.list) }) }
     {
         self.queue = queue;
         self.best = earlier(alloc, &self.best, &self.queue)?;
@@ -153,16 +153,17 @@ impl Rounds {
 }
 
 /// The circuit that the search by this plan finds from a circuit by the rules: the earliest of those that stood in its queue. It
-/// is equivalent to that circuit and has no more gates. Where the search is complete, no circuit that it could reach is before
-/// the found one.
+/// is equivalent to that circuit, costs no more by the plan's weights, and has at most 20,000 gates. Where the search is complete,
+/// no circuit of at most 20,000 gates that it could reach is before the found one.
 pub fn search(alloc: Global, rules: &Rules, c: &[Inst], plan: Plan) -> Result<Vec<Inst>, Memory>
     requires few { length c.now ≤ most_gates }
     requires gates { AllByRecursion (IsProgramGate most_qubits) c.now }
     ensures best { IfOk result (λ d. d.items ≡ best_found (children rules.now.classes) plan c.now) }
-    ensures cheap { IfOk result (λ d. length d.items ≤ length c.now) }
+    ensures cheap { IfOk result (λ d. cost plan.weights d.items ≤ cost plan.weights c.now) }
+    ensures short { IfOk result (λ d. length d.items ≤ most_gates) }
     ensures lawful { (q : ℕ) → q ≤ most_qubits → AllByRecursion (IsProgramGate q) c.now → IfOk result (λ d. AllByRecursion (IsProgramGate q) d.items) }
     ensures equivalent { (q : ℕ) → q ≤ most_qubits → AllByRecursion (IsProgramGate q) c.now → IfOk result (λ d. EquivalentProgramCircuits q c.now d.items) }
-    ensures complete { IsComplete (children rules.now.classes) plan c.now → IfOk result (λ d. (x : ProgramCircuit) → IsReached (children rules.now.classes) (cost d.items + plan.slack) c.now x → is_lt (program_cmp x d.items) ≡ false) }
+    ensures complete { IsComplete (children rules.now.classes) plan c.now → IfOk result (λ d. (x : ProgramCircuit) → length x ≤ most_gates → IsReached (children rules.now.classes) plan.weights (cost plan.weights d.items + plan.slack) c.now x → is_lt (program_cmp plan.weights x d.items) ≡ false) }
 {
     let mut rounds = Rounds::begin(alloc, rules, c, plan)?;
     while let Some(batch) = rounds.take_batch(alloc)? {

@@ -4,3 +4,4 @@ mod Turns
 mod MovedWays
 mod InstanceGates
 pub mod EquivalentInstances
+mod InstanceCosts

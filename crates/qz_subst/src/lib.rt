@@ -4,4 +4,4 @@
 pub mod laws;
 mod substitution;
 
-pub use substitution::{instance, instance_len};
+pub use substitution::{instance, instance_cost, instance_len};

@@ -1,7 +1,8 @@
 //! What becomes of a circuit of a rule when qubits and values stand for its qubits and parameters.
-ghost use Rattle.std.specs.Prelude.{◌≡◌, ◌==◌, [], ◌∷◌, ◌++◌, if◌then◌else◌, length, IfOk, OnOk};
+ghost use Rattle.std.specs.Prelude.{◌≡◌, ◌≤◌, ◌==◌, [], ◌∷◌, ◌++◌, if◌then◌else◌, length, IfOk, OnOk};
 ghost use Rattle.qz_circ.specs.declared.circuit.Inst.TheVariants.{Rz};
 ghost use Rattle.qz_circ.specs.Exponent.{angle_value};
+ghost use Rattle.qz_circ.specs.ProgramCircuits.{cost};
 ghost use Rattle.qz_circ.specs.Instances.{qubit_of, param_of, instance_gate, bound_instance, IsBoundBelow, QubitsBound, IsBoundCircuit};
 
 use qz_circ::{Binding, Expr, Inst, Memory, Op, constant_turn};
@@ -108,6 +109,33 @@ pub fn instance_len(c: &[Op], bind: &Binding) -> usize
     let mut n = 0;
     for f in c {
         n += gate_len(bind, *f);
+    }
+    n
+}
+
+// What the gates cost that a gate becomes.
+#[tactic(auto, unfolding(qz_circ::specs::ProgramCircuits::cost))]
+fn gate_cost(bind: &Binding, g: Op, weights: [u8; 4]) -> u8
+    ensures { result ≡ cost weights (instance_gate (qubit_of bind.now) (param_of bind.now) g) }
+{
+    match g {
+        Op::H(_) => weights[0],
+        Op::X(_) => weights[1],
+        Op::Cx(_, _) => weights[2],
+        Op::Rz(_, e) => if angle_value(bind, e) == 0 { 0 } else { weights[3] },
+    }
+}
+
+/// What the instance of a circuit under a binding costs by these weights, of H, X, CX and rotations, which is known without making
+/// it.
+#[tactic(auto, unfolding(qz_circ::specs::Instances::instance_of))]
+pub fn instance_cost(c: &[Op], bind: &Binding, weights: [u8; 4]) -> u64
+    requires { length c.now ≤ 1000 }
+    ensures { result ≡ cost weights (bound_instance bind.now c.now) }
+{
+    let mut n = 0;
+    for f in c {
+        n += u64::from(gate_cost(bind, *f, weights));
     }
     n
 }

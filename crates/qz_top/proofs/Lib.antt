@@ -10,3 +10,4 @@ pub mod WordLemmas
 pub mod RunLemmas
 pub mod ClassFiles
 pub mod TrialLemmas
+pub mod Cuts

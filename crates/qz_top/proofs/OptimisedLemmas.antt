@@ -5,7 +5,9 @@ use Rattle.std.specs.List.{AllByRecursion}
 use Rattle.qz_circ.specs.declared.circuit.Inst.{Inst}
 use Rattle.qz_circ.specs.declared.circuit.Inst.TheVariants.{H, X, Cx, Rz}
 use Rattle.qz_circ.specs.Grammar.{program_of}
-use Rattle.qz_circ.specs.ProgramCircuits.{ProgramCircuit, IsProgramGate, EquivalentProgramCircuits}
+use Rattle.qz_circ.specs.ProgramCircuits.{ProgramCircuit, IsProgramGate, EquivalentProgramCircuits, ones, cost}
+use Rattle.qz_circ.specs.ProgramLimits.{most_gates}
+use Rattle.qz_circ.proofs.ProgramOrder.{cost_ones}
 use Rattle.qz_circ.specs.Programs.{ProgramParts}
 use Rattle.qz_circ.specs.ProgramText.{program_text}
 use Rattle.qz_circ.specs.Registers.{total_size}
@@ -33,12 +35,13 @@ wider_gates q (g ∷ gates) few each = (wider_gate q g few each.0, wider_gates q
 -- what a search says of the circuit that it finds
 pub record IsSearched {T F : Type 0} (items : T → ProgramCircuit) (rules : RuleClasses) (made : Result T F) (gates : ProgramCircuit) (plan : PlanNumbers) : Type 0 where
   pub best : IfOk made (λ d. items d ≡ best_found (children rules.classes) plan gates)
-  pub cheap : IfOk made (λ d. length (items d) ≤ length gates)
+  pub cheap : IfOk made (λ d. cost plan.weights (items d) ≤ cost plan.weights gates)
+  pub short : IfOk made (λ d. length (items d) ≤ most_gates)
   pub lawful : (q : ℕ) → q ≤ 64 → AllByRecursion (IsProgramGate q) gates → IfOk made (λ d. AllByRecursion (IsProgramGate q) (items d))
   pub equivalent : (q : ℕ) → q ≤ 64 → AllByRecursion (IsProgramGate q) gates → IfOk made (λ d. EquivalentProgramCircuits q gates (items d))
 
--- a program with no more gates, on its qubits, is valid too
-still_valid : (p : ProgramParts) (circuit : ProgramCircuit) → Valid p → AllByRecursion (IsProgramGate (total_size p.qregs)) circuit → length circuit ≤ length p.gates → Valid (with_circuit p circuit)
+-- a program with few enough gates, on its qubits, is valid too
+still_valid : (p : ProgramParts) (circuit : ProgramCircuit) → Valid p → AllByRecursion (IsProgramGate (total_size p.qregs)) circuit → length circuit ≤ most_gates → Valid (with_circuit p circuit)
 still_valid p circuit valid each few = record {
   names = valid.names;
   different = valid.different;
@@ -46,9 +49,15 @@ still_valid p circuit valid each few = record {
   sizes = valid.sizes;
   few_bits = valid.few_bits;
   gates = record { few = valid.gates.few; gates = each };
-  few_gates = omega (arith, few, valid.few_gates);
+  few_gates = few;
   tail = valid.tail;
 }
+
+-- where each gate weighs 1, what costs no more has no more gates
+no_longer : (ws : List ℕ) (c d : ProgramCircuit) → cost ws c ≤ cost ws d → ws ≡ ones → length c ≤ length d
+no_longer ws c d cheap e =
+    let by_ones : cost ones c ≤ cost ones d = subst (λ vs. cost vs c ≤ cost vs d) e cheap in
+    omega (arith, by_ones, cost_ones c, cost_ones d)
 
 -- so the search from a valid program's gates finds what stands in their place
 found_by : {T F : Type 0} (items : T → ProgramCircuit) (rules : RuleClasses) (plan : PlanNumbers) (p : ProgramParts) (made : Result T F) → Valid p → IsSearched items rules made p.gates plan → IfOk made (λ d. IsFound rules plan p (items d))
@@ -58,7 +67,8 @@ found_by items rules plan p (Ok d) valid is =
       found = is.best;
       equivalent = is.equivalent q valid.gates.few valid.gates.gates;
       no_dearer = is.cheap;
-      valid = still_valid p (items d) valid (is.lawful q valid.gates.few valid.gates.gates) is.cheap;
+      no_longer = no_longer plan.weights (items d) p.gates is.cheap;
+      valid = still_valid p (items d) valid (is.lawful q valid.gates.few valid.gates.gates) is.short;
     }
 found_by items rules plan p (Err e) valid is = tt
 

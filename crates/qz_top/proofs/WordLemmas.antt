@@ -43,6 +43,7 @@ no_flag given option.Rounds valued = refl
 no_flag given option.Batch valued = refl
 no_flag given option.Cap valued = refl
 no_flag given option.Slack valued = refl
+no_flag given option.Cost valued = refl
 
 -- a word that names no option
 unnamed_first : (f : Form) (given : Options) (k : ℕ) (word : List ℕ) (words : List (List ℕ)) → option_of f word ≡ None → options_from f given k (word ∷ words) ≡ None

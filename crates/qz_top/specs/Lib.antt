@@ -1,3 +1,5 @@
+pub mod Numbers
+pub mod CostTables
 pub mod Words
 pub mod Status
 pub mod FaultTexts

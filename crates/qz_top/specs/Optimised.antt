@@ -2,7 +2,7 @@
 use Rattle.std.specs.Prelude.{◌≡◌, ℕ, ◌≤◌, List, length, Ok}
 use Rattle.std.specs.Io.KnownBytes.{append_known}
 use Rattle.qz_circ.specs.Grammar.{program_of}
-use Rattle.qz_circ.specs.ProgramCircuits.{ProgramCircuit, EquivalentProgramCircuits}
+use Rattle.qz_circ.specs.ProgramCircuits.{ProgramCircuit, EquivalentProgramCircuits, ones, cost}
 use Rattle.qz_circ.specs.Programs.{ProgramParts}
 use Rattle.qz_circ.specs.ProgramText.{program_text}
 use Rattle.qz_circ.specs.Registers.{total_size}
@@ -15,11 +15,12 @@ use Rattle.qz_top.specs.Making.{AreRulesRead, IsMadeOfInput}
 use Rattle.qz_top.specs.Optimise.{found_circuit, with_circuit}
 
 -- the circuit is the one that the search with these rules and this plan finds from the program's; it is equivalent to that on
--- the program's qubits, has no more gates, and may stand in its place
+-- the program's qubits, costs no more by the plan's weights, has no more gates where each gate weighs 1, and may stand in its place
 pub record IsFound (rules : RuleClasses) (plan : PlanNumbers) (p : ProgramParts) (circuit : ProgramCircuit) : Type 0 where
   pub found : circuit ≡ found_circuit rules.classes plan p.gates
   pub equivalent : EquivalentProgramCircuits (total_size p.qregs) p.gates circuit
-  pub no_dearer : length circuit ≤ length p.gates
+  pub no_dearer : cost plan.weights circuit ≤ cost plan.weights p.gates
+  pub no_longer : plan.weights ≡ ones → length circuit ≤ length p.gates
   pub valid : Valid (with_circuit p circuit)
 
 -- the text is that of the program with such a circuit as its gates, and is read as this program

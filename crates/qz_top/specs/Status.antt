@@ -1,7 +1,7 @@
 -- The numbers of statuses.
 use Rattle.std.specs.Prelude.{ℕ}
 use Rattle.qz_circ.specs.declared.fault.Which.{Which}
-use Rattle.qz_circ.specs.declared.fault.Which.TheVariants.{BoundsQubits, BoundsGates, BoundsParams, BoundsGrain, BoundsCircuits, Workers, PlanBatch, PlanCap, PlanRounds, PlanSlack, RuleBytes, TrialQubits, TrialGates}
+use Rattle.qz_circ.specs.declared.fault.Which.TheVariants.{BoundsQubits, BoundsGates, BoundsParams, BoundsGrain, BoundsCircuits, Workers, PlanBatch, PlanCap, PlanRounds, PlanSlack, CostWeight, RuleBytes, TrialQubits, TrialGates}
 use Rattle.qz_top.specs.declared.status.Status.{Status}
 use Rattle.qz_top.specs.declared.status.Status.TheVariants.{Ok, Memory, Usage, Limit, Qasm, RuleSyntax, Unsound, NoFile, ReadFault, WriteFault, ShelfFault}
 
@@ -59,6 +59,7 @@ IsLimitBeforeInput PlanBatch = Unit {0}
 IsLimitBeforeInput PlanCap = Unit {0}
 IsLimitBeforeInput PlanRounds = Unit {0}
 IsLimitBeforeInput PlanSlack = Unit {0}
+IsLimitBeforeInput CostWeight = Unit {0}
 IsLimitBeforeInput RuleBytes = Unit {0}
 IsLimitBeforeInput TrialQubits = Unit {0}
 IsLimitBeforeInput TrialGates = Unit {0}

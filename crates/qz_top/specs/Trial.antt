@@ -7,7 +7,7 @@ use Rattle.qz_circ.specs.Circuit.{Circuit, Limits, below}
 use Rattle.qz_circ.specs.Classes.{IsClassList}
 use Rattle.qz_circ.specs.Joined.{circuits_of_ranks}
 use Rattle.qz_circ.specs.Lines.{line}
-use Rattle.qz_circ.specs.ProgramCircuits.{ProgramCircuit}
+use Rattle.qz_circ.specs.ProgramCircuits.{ProgramCircuit, ones}
 use Rattle.qz_circ.specs.Replacement.{children}
 use Rattle.qz_circ.specs.Search.{PlanNumbers, best_found}
 use Rattle.qz_top.specs.declared.status.Status.TheVariants.{Ok}
@@ -46,9 +46,9 @@ trial_circuit seed q g = map (trial_gate seed q) (below g)
 abbrev pub trial_limits : Limits
 trial_limits = record { n = 2; q = 2; m = 1; grain = 4 }
 
--- four rounds that take two circuits each, a queue of 20, and no slack
+-- four rounds that take two circuits each, a queue of 20, and no slack; each gate weighs 1
 abbrev pub trial_plan : PlanNumbers
-trial_plan = record { rounds = 4; batch = 2; cap = 20; slack = 0 }
+trial_plan = record { rounds = 4; batch = 2; cap = 20; slack = 0; weights = ones }
 
 -- the circuit that the search with these rules finds
 abbrev pub trial_found : List (List Circuit) → ProgramCircuit → ProgramCircuit

@@ -7,12 +7,12 @@ use Rattle.std.specs.Str.{bytes_eq}
 use Rattle.qz_circ.specs.declared.fault.LimitFault.{LimitFault}
 use Rattle.qz_circ.specs.declared.fault.LimitFault.TheVariants.{Qubits, Gates, Params, Grain, Circuits}
 use Rattle.qz_circ.specs.declared.fault.Which.{Which}
-use Rattle.qz_circ.specs.declared.fault.Which.TheVariants.{BoundsQubits, BoundsGates, BoundsParams, BoundsGrain, BoundsCircuits, Workers, PlanBatch, PlanCap, PlanRounds, PlanSlack, TrialQubits, TrialGates}
+use Rattle.qz_circ.specs.declared.fault.Which.TheVariants.{BoundsQubits, BoundsGates, BoundsParams, BoundsGrain, BoundsCircuits, Workers, PlanBatch, PlanCap, PlanRounds, PlanSlack, CostWeight, TrialQubits, TrialGates}
 use Rattle.qz_circ.specs.Circuit.{Limits}
 use Rattle.qz_circ.specs.Bounds.{refusal}
 use Rattle.qz_circ.specs.Search.{PlanNumbers}
 use Rattle.qz_search.specs.declared.plan.PlanFault.{PlanFault}
-use Rattle.qz_search.specs.declared.plan.PlanFault.TheVariants.{Batch, Cap, Rounds, Slack}
+use Rattle.qz_search.specs.declared.plan.PlanFault.TheVariants.{Batch, Cap, Rounds, Slack, Weight}
 use Rattle.qz_search.specs.PlanFaults.{plan_refusal}
 use Rattle.qz_top.specs.declared.words.Command.{Command}
 use Rattle.qz_top.specs.declared.words.Command.TheVariants.{Generate, Tidy, Optimise, Trial}
@@ -24,20 +24,9 @@ use Rattle.qz_top.specs.declared.words.Options.{Options}
 use Rattle.qz_top.specs.declared.words.WordFault.{WordFault}
 use Rattle.qz_top.specs.declared.words.WordFault.TheVariants.{Usage, Limit}
 use Rattle.qz_circ.specs.ProgramLimits.{most_qubits, most_gates}
-
--- ---- numbers
-
--- the number with one digit more at its end
-abbrev pub with_digit : ℕ → ℕ → ℕ
-with_digit n d = 10 * n + (d - 48)
-
--- one to eighteen digits, which may begin with zeros, and nothing else
-abbrev pub is_number : List ℕ → Bool
-is_number word = nat_lt 0 (length word) && nat_lt (length word) 19 && list_all is_ascii_digit word
-
--- the value of a number; none of any other word
-unfoldable pub number_of : List ℕ → Option ℕ
-number_of word = if is_number word then Some (fold with_digit 0 word) else None
+use Rattle.qz_top.specs.declared.cost_table.CostTable.{CostTable}
+pub use Rattle.qz_top.specs.Numbers.{with_digit, is_number, number_of, new_number}
+use Rattle.qz_top.specs.CostTables.{table_of, weights_of}
 
 -- ---- options
 
@@ -53,6 +42,7 @@ option_named word =
     else if bytes_eq word (codes "--batch") then Some option.Batch
     else if bytes_eq word (codes "--cap") then Some option.Cap
     else if bytes_eq word (codes "--slack") then Some option.Slack
+    else if bytes_eq word (codes "--cost") then Some option.Cost
     else None
 
 -- words of this form may have this option
@@ -78,21 +68,21 @@ takes_value _ = true
 
 -- no option is given
 abbrev pub no_options : Options
-no_options = record { workers = None; seed = None; report = false; grain = None; rules = None; rounds = None; batch = None; cap = None; slack = None }
+no_options = record {workers = None; seed = None; report = false; grain = None; rules = None; rounds = None; batch = None; cap = None; slack = None, workers = None; seed = None; report = false; rules = None; rounds = None; batch = None; cap = None; slack = None; cost = None}
 
 -- the word that names a rule file is one of the first n
 abbrev pub IsFileWithin : ℕ → Options → Type 0
 IsFileWithin n given = IfSome given.rules (λ k. k < n)
 
--- the number that a word is, for an option that has no number yet
-abbrev pub new_number : Option ℕ → List ℕ → Option ℕ
-new_number None word = number_of word
-new_number (Some earlier) word = None
-
 -- the place of a word that names a file, for an option that has none yet; a name isn't empty
 abbrev pub new_file : Option ℕ → ℕ → List ℕ → Option ℕ
 new_file None k word = if nat_lt 0 (length word) then Some k else None
 new_file (Some earlier) k word = None
+
+-- the table that a word is, for an option that has none yet
+abbrev pub new_table : Option CostTable → List ℕ → Option CostTable
+new_table None word = table_of word
+new_table (Some earlier) word = None
 
 -- these options and one more, whose value is this word, the one with number k; none where it was given before, or the word is
 -- no such value
@@ -106,6 +96,7 @@ with_value given option.Rounds k word = option_map (λ n. record given { rounds 
 with_value given option.Batch k word = option_map (λ n. record given { batch = Some n }) (new_number given.batch word)
 with_value given option.Cap k word = option_map (λ n. record given { cap = Some n }) (new_number given.cap word)
 with_value given option.Slack k word = option_map (λ n. record given { slack = Some n }) (new_number given.slack word)
+with_value given option.Cost k word = option_map (λ t. record given { cost = Some t }) (new_table given.cost word)
 
 -- these options and one more that has no value; none where it was given before, or has a value
 abbrev pub without_value : Options → OptionName → Option Options
@@ -136,9 +127,10 @@ seed_of given = unwrap_or given.seed 0
 abbrev pub grain_of : Options → ℕ
 grain_of given = unwrap_or given.grain 4
 
--- the plan of the options: where they don't say, 16 rounds that take 8 circuits each, a queue of 100, and no slack
+-- the plan of the options: where they don't say, 16 rounds that take 8 circuits each, a queue of 100, and no slack; a gate of
+-- which they say nothing weighs 1
 abbrev pub plan_of : Options → PlanNumbers
-plan_of given = record { rounds = unwrap_or given.rounds 16; batch = unwrap_or given.batch 8; cap = unwrap_or given.cap 100; slack = unwrap_or given.slack 0 }
+plan_of given = record { rounds = unwrap_or given.rounds 16; batch = unwrap_or given.batch 8; cap = unwrap_or given.cap 100; slack = unwrap_or given.slack 0; weights = weights_of given.cost }
 
 -- ---- limits
 
@@ -156,6 +148,7 @@ which_of_plan Batch = PlanBatch
 which_of_plan Cap = PlanCap
 which_of_plan Rounds = PlanRounds
 which_of_plan Slack = PlanSlack
+which_of_plan Weight = CostWeight
 
 -- the limit that a number of workers passes: there are 1 to 16
 abbrev pub workers_limit : ℕ → Option Which

@@ -1,6 +1,7 @@
 //! The commands of quartz: from a list of words and an input to a status and what is written.
 #![tactic(auto)]
 
+mod cost_table;
 mod generate;
 mod inputs;
 mod optimise;

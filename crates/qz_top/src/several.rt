@@ -86,7 +86,7 @@ pub fn run<I: Source, F: Shelf, O: Sink, E: Sink, T: Turnstile, R: Threads + Wai
         → WritesCompleteRules b (O.written out.old) (O.written out.new) }
 
     // What `optimise` writes is read as the input's program with the circuit of the search as its gates, which is equivalent to
-    // the program's own and has no more gates. The plan of the search is that of the words, whatever the workers are.
+    // the program's own, costs no more by the words' weights, and has no more gates where they give none. The plan of the search is that of the words, whatever the workers are.
     ensures optimised { (k : ℕ) (plan : PlanNumbers) (workers : ℕ) → command_of (map string_bytes words.now) ≡ Ok (Command.Optimise k plan workers) → result ≡ Status.Ok
         → WritesOptimised (slice_index_or (map string_bytes words.now) k []) plan
         (shown I.Source F.Shelf O.Sink input.old input.new shelf.old shelf.new out.old out.new) }

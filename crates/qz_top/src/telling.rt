@@ -27,6 +27,7 @@ fn which_name(which: Which) -> &'static str
         Which::PlanCap => "plan-cap",
         Which::PlanRounds => "plan-rounds",
         Which::PlanSlack => "plan-slack",
+        Which::CostWeight => "cost-weight",
         Which::InputBytes => "input-bytes",
         Which::RuleBytes => "rule-bytes",
         Which::ProgramRegisters => "program-registers",

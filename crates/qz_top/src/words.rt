@@ -3,9 +3,10 @@ ghost use Rattle.std.specs.Prelude.{◌≡◌, ◌<◌, ◌≤◌, ℕ, [], leng
 ghost use Rattle.std.specs.Option.{option_map};
 ghost use Rattle.qz_circ.specs.Search.{PlanNumbers};
 ghost use Rattle.qz_search.specs.PlanFaults.{plan_refusal};
-ghost use Rattle.qz_top.specs.Words.{number_of, option_named, has_option, option_of, takes_value, no_options, IsFileWithin, new_number, new_file, with_value, without_value, options_from, workers_of, seed_of, grain_of, plan_of};
+ghost use Rattle.qz_top.specs.Words.{number_of, option_named, has_option, option_of, takes_value, no_options, IsFileWithin, new_number, new_file, new_table, with_value, without_value, options_from, workers_of, seed_of, grain_of, plan_of};
 ghost use Rattle.qz_top.specs.Words.{which_of, which_of_plan, workers_limit, trial_limit, AreWorkers, IsTrialSize, IsLawfulCommand, unless_passed, generation, optimisation, trial, limits_of, generation_asked, optimisation_asked, tidying_asked, trial_asked, command_by, command_of};
 
+use crate::cost_table::{CostTable, cost_table, weights_of};
 use qz_circ::{Bounds, LimitFault, MOST_GATES, MOST_QUBITS, Which};
 use qz_search::{Plan, PlanFault};
 
@@ -71,6 +72,7 @@ pub(crate) enum OptionName {
     Batch,
     Cap,
     Slack,
+    Cost,
 }
 
 // The options that are given, with their values; of the rule file the number of the word that names it.
@@ -85,6 +87,7 @@ pub(crate) struct Options {
     pub(crate) batch: Option<u64>,
     pub(crate) cap: Option<u64>,
     pub(crate) slack: Option<u64>,
+    pub(crate) cost: Option<CostTable>,
 }
 
 // The value of one to eighteen digits.
@@ -134,6 +137,7 @@ fn option_named(word: &str) -> Option<OptionName>
         "--batch" => Some(OptionName::Batch),
         "--cap" => Some(OptionName::Cap),
         "--slack" => Some(OptionName::Slack),
+        "--cost" => Some(OptionName::Cost),
         _ => None,
     }
 }
@@ -174,7 +178,7 @@ fn takes_value(name: OptionName) -> bool
 }
 
 // The number that a word is, for an option that has no number yet.
-fn new_number(earlier: Option<u64>, word: &str) -> Option<u64>
+pub(crate) fn new_number(earlier: Option<u64>, word: &str) -> Option<u64>
     ensures { result ≡ new_number earlier word.now }
 {
     match earlier {
@@ -193,6 +197,16 @@ fn new_file(earlier: Option<usize>, k: usize, word: &str) -> Option<usize>
     Some(k)
 }
 
+// The table that a word is, for an option that has none yet.
+fn new_table(earlier: Option<CostTable>, word: &str) -> Option<CostTable>
+    ensures { result ≡ new_table earlier word.now }
+{
+    match earlier {
+        None => cost_table(word),
+        Some(_) => None,
+    }
+}
+
 impl Options {
     // No option is given.
     fn none() -> Options
@@ -208,6 +222,7 @@ impl Options {
             batch: None,
             cap: None,
             slack: None,
+            cost: None,
         }
     }
 
@@ -248,6 +263,10 @@ impl Options {
             }),
             OptionName::Slack => Some(Options {
                 slack: Some(new_number(self.slack, word)?),
+                ..self
+            }),
+            OptionName::Cost => Some(Options {
+                cost: Some(new_table(self.cost, word)?),
                 ..self
             }),
         }
@@ -292,11 +311,12 @@ impl Options {
     fn plan(self) -> Result<Plan, PlanFault>
         ensures { MatchResult result (λ p. (p ≡ plan_of self) × (plan_refusal (plan_of self) ≡ None)) (λ fault. plan_refusal (plan_of self) ≡ Some fault) }
     {
-        Plan::new(
+        Plan::weighted(
             self.rounds.unwrap_or(16),
             self.batch.unwrap_or(8),
             self.cap.unwrap_or(100),
             self.slack.unwrap_or(0),
+            weights_of(self.cost),
         )
     }
 }
@@ -361,6 +381,7 @@ fn limit_of_plan(fault: PlanFault) -> Which
         PlanFault::Cap => Which::PlanCap,
         PlanFault::Rounds => Which::PlanRounds,
         PlanFault::Slack => Which::PlanSlack,
+        PlanFault::Weight => Which::CostWeight,
     }
 }
 

@@ -2,7 +2,8 @@ use Rattle.std.proofs.Common.{◌≡◌, ◌<◌, ℕ, length, ap, subst, ◌∙
 use Rattle.std.specs.Prelude.{IfOk}
 use Rattle.std.proofs.lemmas.List.{length-map}
 use Rattle.qz_circ.specs.Vectors.{lists_of}
-use Rattle.qz_circ.specs.Search.{earliest}
+use Rattle.qz_circ.specs.Search.{earliest, is_short}
+use Rattle.std.specs.List.{filter}
 use Rattle.qz_seats.specs.Views.{draws}
 use Rattle.qz_hunt.specs.Gathered.{RoundParts, IsGathered}
 use Rattle.qz_hunt.proofs.GatherLemmas.{gathered_all}
@@ -20,4 +21,4 @@ returns g c =
     omega (arith, ap (λ t. t.limit) c.crew-pass.ensures.free.0.1, ap (λ t. t.limit) c.in_ok-seats.ensures.terms, c.len-limit.ensures, c.args.batch.ok.0, length-map c.args.batch.items (λ v. v.items)) in
     let drawn : (n : ℕ) → n < length batch → draws n view ≡ 1 = λ n inside. c.close.ensures.ended all.ended n (omega (arith, inside, limit)) in
     let gathered = gathered_all r found view all.all drawn in
-    c.in_ok-end_round.ensures ∙ (λ i. record search { queue = gathered i; best = earliest search.best (gathered i).list })
+    c.in_ok-end_round.ensures ∙ (λ i. record search { queue = gathered i; best = earliest (gathered i).weights search.best (filter is_short (gathered i).list) })

@@ -1,20 +1,30 @@
-use Rattle.std.proofs.Common.{length, ◌∙◌, arith}
+use Rattle.std.proofs.Common.{◌≡◌, ◌∙◌, arith}
+use Rattle.qz_circ.specs.ProgramCircuits.{cost}
 use Rattle.qz_circ.specs.Instances.{bound_instance}
+use Rattle.qz_circ.proofs.ProgramOrder.{cost_most}
 use Rattle.qz_subst.proofs.EquivalentInstances.{instance_length}
-use Rattle.qz_rewrite.proofs.FoundPlaces.{rewritten_length}
+use Rattle.qz_search.proofs.StepCosts.{rewritten_cost}
 use Rattle.qz_search.proofs.children.new_cost.Goals as goal
 
 pub overflow_add-result : goal.overflow_add-result
 overflow_add-result c =
-    let is = c.instance_len.ensures ∙ (λ i. length (bound_instance (c.binding.ensures i) c.args.rule.now.right.now)) in
-    record { fits = omega (arith, c.requires.short, c.requires.few, instance_length c.args.place.now.binding c.args.rule.now.right.now, is) }
+    let ws = c.args.queue.now.weights in
+    let right = c.args.rule.now.right.now in
+    let bind = c.args.place.now.binding in
+    let is = c.instance_cost.ensures ∙ (λ i. cost (c.weights.ensures.value i) (bound_instance (c.binding.ensures i) right)) in
+    let most = cost_most ws c.requires.lawful.weighed (bound_instance bind right) in
+    record { fits = omega (arith, c.requires.short, c.requires.few, c.requires.cost, cost_most ws c.requires.lawful.weighed c.args.c.now.gates.now, most, instance_length bind right, is) }
 
 pub overflow_sub-result : goal.overflow_sub-result
 overflow_sub-result c =
-    let is = c.instance_len.ensures ∙ (λ i. length (bound_instance (c.binding.ensures i) c.args.rule.now.right.now)) in
-    omega (arith, rewritten_length c.args.rule.now.left.now c.args.rule.now.right.now c.args.c.now c.args.place.now c.requires.place, is)
+    let ws = c.args.queue.now.weights in
+    let right = c.args.rule.now.right.now in
+    let is = c.instance_cost.ensures ∙ (λ i. cost (c.weights.ensures.value i) (bound_instance (c.binding.ensures i) right)) in
+    omega (arith, rewritten_cost ws c.args.rule.now.left.now right c.args.c.now.gates.now c.args.place.now c.requires.place, c.requires.cost, c.requires.left, is)
 
 pub returns : goal.returns
 returns c =
-    let is = c.instance_len.ensures ∙ (λ i. length (bound_instance (c.binding.ensures i) c.args.rule.now.right.now)) in
-    omega (arith, rewritten_length c.args.rule.now.left.now c.args.rule.now.right.now c.args.c.now c.args.place.now c.requires.place, is)
+    let ws = c.args.queue.now.weights in
+    let right = c.args.rule.now.right.now in
+    let is = c.instance_cost.ensures ∙ (λ i. cost (c.weights.ensures.value i) (bound_instance (c.binding.ensures i) right)) in
+    omega (arith, rewritten_cost ws c.args.rule.now.left.now right c.args.c.now.gates.now c.args.place.now c.requires.place, c.requires.cost, c.requires.left, is)

@@ -8,4 +8,4 @@ use Rattle.qz_search.proofs.children.offer_children.Given as goal
 
 abbrev pub invariant-loop-side : goal.invariant-loop-side
 invariant-loop-side l =
-    (IsOffering l.queue l.fn.queue (filter (is_new l.test.seen l.test.most) (flat_map (λ side. children_of l.circuits side l.c) (drop l.side-index l.sides))) (filter (is_new l.test.seen l.test.most) (flat_map (λ side. children_of l.circuits side l.c) l.sides))) × IfSome l.bar (IsBar l.queue l.c)
+    (IsOffering l.queue l.fn.queue (filter (is_new l.fn.queue.weights l.test.seen l.test.most) (flat_map (λ side. children_of l.circuits side l.c) (drop l.side-index l.sides))) (filter (is_new l.fn.queue.weights l.test.seen l.test.most) (flat_map (λ side. children_of l.circuits side l.c) l.sides))) × IfSome l.bar (IsBar l.queue l.c)

@@ -8,4 +8,4 @@ use Rattle.qz_search.proofs.offer.offer_batch.Given as goal
 
 abbrev pub invariant-loop-c : goal.invariant-loop-c
 invariant-loop-c l =
-    IsOffering l.queue l.fn.queue (filter (is_new l.test.seen l.test.most) (flat_map (children_by_table l.rules) (lists_of (drop l.c-index l.batch)))) (filter (is_new l.test.seen l.test.most) (flat_map (children_by_table l.rules) (lists_of l.batch)))
+    IsOffering l.queue l.fn.queue (filter (is_new l.fn.queue.weights l.test.seen l.test.most) (flat_map (children_by_table l.rules) (lists_of (drop l.c-index l.batch)))) (filter (is_new l.fn.queue.weights l.test.seen l.test.most) (flat_map (children_by_table l.rules) (lists_of l.batch)))

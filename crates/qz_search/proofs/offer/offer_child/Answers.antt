@@ -5,9 +5,10 @@ use Rattle.qz_search.proofs.offer.offer_child.Goals as goal
 
 pub returns-clause-offered : goal.returns-clause-offered
 returns-clause-offered c =
-    let new : is_new c.args.test.now.seen c.args.test.now.most c.args.c.items ≡ true = rw c.deref-2.ensures.value at (sym c.passes.ensures ∙ c.if-not-passes.false) in
-    one_offered c.args.queue.now c.offer.new.self c.args.c.items _ new c.offer.ensures.list
+    let ws = c.args.queue.now.weights in
+    let new : is_new ws c.args.test.now.seen c.args.test.now.most c.args.c.items ≡ true = rw c.deref-2.ensures.value at (sym (c.passes.ensures ws (rw c.deref-2.ensures.value c.requires.cost)) ∙ c.if-not-passes.false) in
+    one_offered c.args.queue.now c.offer_at.new.self c.args.c.items _ new c.offer_at.ensures.list
 
 pub returns-then-refuses-clause-offered : goal.returns-then-refuses-clause-offered
 returns-then-refuses-clause-offered c =
-    closed_lost c.args.queue.now c.args.test.now.seen c.args.test.now.most c.args.c.items c.requires (rw c.deref.ensures.value at (c.refuses.ensures.same c.if-refuses.true))
+    closed_lost c.args.queue.now c.args.test.now.seen c.args.test.now.most c.args.c.items c.requires.lawful (rw c.deref.ensures.value at (c.refuses.ensures.same c.if-refuses.true))

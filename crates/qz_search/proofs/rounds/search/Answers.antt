@@ -27,6 +27,10 @@ pub returns-clause-cheap : goal.returns-clause-cheap
 returns-clause-cheap c =
     (is_found c.args.rules.now.classes c.args.c.now c.loop-rounds.rounds.plan c.args.plan c.take_batch.new.self.best c.into_best.result.items c.in_ok-batch.field-0 _ (c.in_ok-batch.ensures.found c.args.rules.now.classes c.args.c.now c.loop-rounds.invariant.0) c.in_default.not-Some c.loop-rounds.invariant.1 c.into_best.ensures).cheap
 
+pub returns-clause-short : goal.returns-clause-short
+returns-clause-short c =
+    (is_found c.args.rules.now.classes c.args.c.now c.loop-rounds.rounds.plan c.args.plan c.take_batch.new.self.best c.into_best.result.items c.in_ok-batch.field-0 _ (c.in_ok-batch.ensures.found c.args.rules.now.classes c.args.c.now c.loop-rounds.invariant.0) c.in_default.not-Some c.loop-rounds.invariant.1 c.into_best.ensures).short
+
 pub returns-clause-lawful : goal.returns-clause-lawful
 returns-clause-lawful c =
     (is_found c.args.rules.now.classes c.args.c.now c.loop-rounds.rounds.plan c.args.plan c.take_batch.new.self.best c.into_best.result.items c.in_ok-batch.field-0 _ (c.in_ok-batch.ensures.found c.args.rules.now.classes c.args.c.now c.loop-rounds.invariant.0) c.in_default.not-Some c.loop-rounds.invariant.1 c.into_best.ensures).lawful

@@ -12,4 +12,4 @@ search-requires-clause-gates c =
 pub returns : goal.returns
 returns c =
     circuit_found (λ d. d.items) c.args.rules.now c.args.plan c.args.program.now _ c.search.result c.requires c.gates.ensures
-    (record { best = c.search.ensures.best; cheap = c.search.ensures.cheap; lawful = c.search.ensures.lawful; equivalent = c.search.ensures.equivalent })
+    (record { best = c.search.ensures.best; cheap = c.search.ensures.cheap; short = c.search.ensures.short; lawful = c.search.ensures.lawful; equivalent = c.search.ensures.equivalent })

@@ -8,7 +8,7 @@ returns-clause-between c =
     let plan = c.args.plan in
     let circuit = c.args.c.now in
     let classes = c.args.rules.now.classes in
-    let given = c.in_ok-queue.ensures ∙ (λ i. record { cap = c.cap.ensures.value i; list = [] }) in
-    let offered = c.offer.ensures.list ∙ (λ i. record { cap = (given i).cap; list = firsts (given i).cap (c.in_ok-copy_of.ensures i ∷ (given i).list) }) in
+    let given = c.in_ok-queue.ensures ∙ (λ i. record { cap = c.cap.ensures.value i; weights = c.weights.ensures.value i; list = [] }) in
+    let offered = c.offer.ensures.list ∙ (λ i. record { cap = (given i).cap; weights = (given i).weights; list = firsts (given i).weights (given i).cap (c.in_ok-copy_of.ensures i ∷ (given i).list) }) in
     let of = by_table classes circuit c.in_ok-rules.rules plan c.in_ok-rules.ensures.alike c.in_ok-rules.ensures.sound c.cap.ensures.lawful c.requires.gates c.requires.few in
     begun classes circuit _ of c.rounds.ensures.value c.new-2.ensures offered c.in_ok-best.ensures

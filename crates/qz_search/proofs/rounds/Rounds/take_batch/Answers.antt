@@ -1,5 +1,5 @@
 use Rattle.std.proofs.Common.{◌≡◌, inl, inr, ◌++◌, take, drop, sym, ap, subst, ◌∙◌, ◌+◌, arith}
-use Rattle.qz_circ.specs.ProgramCircuits.{program_cmp}
+use Rattle.qz_circ.specs.ProgramCircuits.{ones, cost, program_cmp}
 use Rattle.qz_circ.specs.Queue.{different}
 use Rattle.qz_circ.specs.Vectors.{lists_of}
 use Rattle.qz_search.specs.Rounds.{SearchParts, IsBetweenRounds}
@@ -20,8 +20,8 @@ returns-clause-found c = λ classes d h.
     let s : SearchParts = record { rules = inside.rules; plan = inside.plan; left = inside.left; seen = inside.test.seen; most = inside.test.most; queue = inside.queue; best = inside.best.items } in
     let view : c.args.self.now ≡ s = sym c.self.view_is in
     let left = c.take_batch.new.self in
-    taken classes d s c.add_all.new.seen (lists_of c.in_ok-batch.batch.items) (c.len-2.result + c.slack.result) left (subst (IsBetweenRounds classes d) view h) c.len.ensures.lawful (λ e. c.if-self-eq0.false e)
+    taken classes d s c.add_all.new.seen (lists_of c.in_ok-batch.batch.items) (c.cost.result + c.slack.result) left (subst (IsBetweenRounds classes d) view h) c.len.ensures.lawful (λ e. c.if-self-eq0.false e)
     (c.in_ok-batch.ensures.taken ∙ (λ i. take (c.batch.ensures.value i) inside.queue.list))
-    (c.in_ok-batch.ensures.rest ∙ (λ i. record { cap = inside.queue.cap; list = drop (c.batch.ensures.value i) inside.queue.list }))
-    (λ all g. c.in_ok-add_all.ensures all g ∙ (λ i. different program_cmp (all ++ lists_of (c.deref.ensures.value i))))
-    (omega (arith, c.len-2.ensures, c.slack.ensures.value, inside.best.ok.0))
+    (c.in_ok-batch.ensures.rest ∙ (λ i. record { cap = inside.queue.cap; weights = inside.queue.weights; list = drop (c.batch.ensures.value i) inside.queue.list }))
+    (λ all g. c.in_ok-add_all.ensures all g ∙ (λ i. different (program_cmp ones) (all ++ lists_of (c.deref.ensures.value i))))
+    (omega (arith, c.cost.ensures ∙ (λ i. cost (c.weights.ensures.value i) (c.deref-2.ensures.value i)), c.slack.ensures.value))
