@@ -1,8 +1,17 @@
 -- What a queue in memory keeps.
-use Rattle.std.specs.Prelude.{ℕ, ◌≤◌, Vec, vec_capacity}
+use Rattle.std.specs.Prelude.{◌≡◌, ℕ, ◌<◌, ◌≤◌, false, Vec, vec_capacity}
 use Rattle.qz_circ.specs.declared.circuit.Inst.{Inst}
 use Rattle.qz_circ.specs.Queue.{QueueList, IsQueue}
+use Rattle.qz_circ.specs.ProgramCircuits.{ProgramCircuit}
+use Rattle.qz_circ.specs.Search.{is_among}
 use Rattle.qz_circ.specs.Vectors.{lists_of}
+use Rattle.qz_queue.specs.Circuits.{place_of}
+
+-- a circuit that the queue doesn't refuse stands behind so many
+pub record IsPlace (q : QueueList) (c : ProgramCircuit) (n : ℕ) : Type 0 where
+  pub missing : is_among q.list c ≡ false
+  pub at : n ≡ place_of q.list c
+  pub below : n < q.cap
 
 module _ {A B : Type 0} where
   -- the queue that a number and some vectors stand for

@@ -4,10 +4,11 @@ ghost use Rattle.std.specs.List.{insert};
 ghost use Rattle.qz_circ.specs.ProgramCircuits.{ProgramCircuit, cost};
 ghost use Rattle.qz_circ.specs.Queue.{IsQueue, IsRefused, firsts};
 ghost use Rattle.qz_queue.specs.Bars.{IsBar};
+ghost use Rattle.qz_queue.specs.HeldQueue.{IsPlace};
 ghost use Rattle.qz_circ.specs.Vectors.{lists_of};
 
 use crate::bar::{Bar, bar_of};
-use crate::place::find;
+use crate::place::{Seek, find};
 use qz_circ::{Inst, Memory};
 use std::alloc::Global;
 use std::marker::Model;
@@ -102,6 +103,48 @@ impl Queue {
         }
     }
 
+    // Where a circuit would stand, sought in this order, and whether it is refused.
+    fn place_by(&self, c: &[Inst], seek: Seek) -> (usize, bool)
+        ensures refused { (result.1 ≡ true) ↔ IsRefused self.now c.now }
+        ensures same { result.1 ≡ true → firsts self.now.cap (c.now ∷ self.now.list) ≡ self.now.list }
+        ensures place { result.1 ≡ false → IsPlace self.now c.now result.0 }
+    {
+        let (place, found) = find(&self.list, c, seek);
+        if found {
+            return (place, true);
+        }
+        (place, place == self.cap)
+    }
+
+    /// Where a circuit would stand, if it isn't refused.
+    pub fn place(&self, c: &[Inst]) -> Option<usize>
+        ensures none { (result ≡ None) ↔ IsRefused self.now c.now }
+        ensures same { result ≡ None → firsts self.now.cap (c.now ∷ self.now.list) ≡ self.now.list }
+        ensures some { IfSome result (IsPlace self.now c.now) }
+    {
+        let (place, refused) = self.place_by(c, Seek::Ends);
+        if refused { None } else { Some(place) }
+    }
+
+    /// Puts a circuit that isn't refused in its place, and drops the last one where there are then too many. It takes no memory.
+    pub fn put_at(&mut self, place: usize, c: Vec<Inst>)
+        requires { IsPlace self.old c.items place }
+        ensures { self.new ≡ record self.old { list = firsts self.old.cap (c.items ∷ self.old.list) } }
+    {
+        put(&mut self.list, self.cap, place, c);
+    }
+
+    // Offers a circuit, whose place is sought from a number on; the place.
+    fn offer_from(&mut self, c: Vec<Inst>, from: usize) -> usize
+        ensures { self.new ≡ record self.old { list = firsts self.old.cap (c.items ∷ self.old.list) } }
+    {
+        let (place, refused) = self.place_by(&c, Seek::From(from));
+        if !refused {
+            self.put_at(place, c);
+        }
+        place
+    }
+
     /// Puts a circuit in its place, and drops the last one where there are then too many. False, with nothing changed, where
     /// the circuit is there, or where as many earlier ones are there as the queue holds at most. It takes no memory.
     pub fn offer(&mut self, c: Vec<Inst>) -> bool
@@ -109,14 +152,12 @@ impl Queue {
         ensures refused { (result ≡ false) ↔ IsRefused self.old c.items }
         ensures kept { result ≡ false → self.new ≡ self.old }
     {
-        let (place, found) = find(&self.list, &c);
-        if place == self.cap {
+        let (place, refused) = self.place_by(&c, Seek::Ends);
+        if refused {
             return false;
         }
-        if found {
-            return false;
-        }
-        put(&mut self.list, self.cap, place, c)
+        self.put_at(place, c);
+        true
     }
 
     /// Takes out the first k circuits, or all where there are fewer. After an error nothing has changed.
@@ -151,8 +192,9 @@ impl Queue {
         ensures { self.new ≡ record self.old { list = firsts self.old.cap (self.old.list ++ other.list) } }
     {
         let _ = &self.list;
+        let mut from = 0;
         for c in other.list {
-            self.offer(c);
+            from = self.offer_from(c, from);
         }
     }
 
@@ -182,8 +224,7 @@ impl Queue {
         ensures exact { IsTrue result ↔ IsRefused self.now c.now }
         ensures same { IsTrue result → firsts self.now.cap (c.now ∷ self.now.list) ≡ self.now.list }
     {
-        let (place, found) = find(&self.list, c);
-        found || place == self.cap
+        self.place_by(c, Seek::Ends).1
     }
 
     /// Whether as many circuits of less than this cost are there as the queue holds at most, so that it refuses each circuit of

@@ -4,7 +4,7 @@ ghost use Rattle.qz_circ.specs.ProgramCircuits.{program_cmp};
 ghost use Rattle.qz_circ.specs.Queue.{different};
 ghost use Rattle.qz_circ.specs.Search.{is_among};
 
-use crate::place::find;
+use crate::place::{Seek, find};
 use qz_circ::{Inst, Memory};
 use std::alloc::Global;
 use std::marker::Model;
@@ -43,7 +43,7 @@ impl Seen {
         ensures ok { OnOk result (self.new ≡ different program_cmp (c.items ∷ self.old)) }
         ensures err { OnErr result (self.new ≡ self.old) }
     {
-        let (place, found) = find(&self.list, &c);
+        let (place, found) = find(&self.list, &c, Seek::Ends);
         if found {
             return Ok(());
         }
@@ -57,6 +57,6 @@ impl Seen {
     pub fn contains(&self, c: &[Inst]) -> bool
         ensures { result ≡ is_among self.now c.now }
     {
-        find(&self.list, c).1
+        find(&self.list, c, Seek::Ends).1
     }
 }

@@ -22,13 +22,14 @@ pub(crate) fn offer_child(test: &Filter, c: Vec<Inst>, queue: &mut Queue) -> boo
     ensures kept { result ≡ false → queue.new ≡ queue.old }
     ensures offered { queue.new ≡ offered_to queue.old (filter (is_new test.now.seen test.now.most) (c.items ∷ [])) }
 {
-    if queue.refuses(&c) {
+    let Some(place) = queue.place(&c) else {
         return false;
-    }
+    };
     if !test.passes(&c) {
         return false;
     }
-    queue.offer(c)
+    queue.put_at(place, c);
+    true
 }
 
 // Offers to the queue what each of these circuits becomes by one step with the rules, where it is new.

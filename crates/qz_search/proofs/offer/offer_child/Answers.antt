@@ -6,8 +6,8 @@ use Rattle.qz_search.proofs.offer.offer_child.Goals as goal
 pub returns-clause-offered : goal.returns-clause-offered
 returns-clause-offered c =
     let new : is_new c.args.test.now.seen c.args.test.now.most c.args.c.items ≡ true = rw c.deref-2.ensures.value at (sym c.passes.ensures ∙ c.if-not-passes.false) in
-    one_offered c.args.queue.now c.offer.new.self c.args.c.items _ new c.offer.ensures.list
+    one_offered c.args.queue.now c.put_at.new.self c.args.c.items _ new c.put_at.ensures
 
-pub returns-then-refuses-clause-offered : goal.returns-then-refuses-clause-offered
-returns-then-refuses-clause-offered c =
-    closed_lost c.args.queue.now c.args.test.now.seen c.args.test.now.most c.args.c.items c.requires (rw c.deref.ensures.value at (c.refuses.ensures.same c.if-refuses.true))
+pub returns-in_default-clause-offered : goal.returns-in_default-clause-offered
+returns-in_default-clause-offered c =
+    closed_lost c.args.queue.now c.args.test.now.seen c.args.test.now.most c.args.c.items c.requires (rw c.deref.ensures.value at (c.place.ensures.same c.in_default.is))

@@ -8,5 +8,5 @@ use Rattle.qz_queue.proofs.queue.Queue.merge.Goals as goal
 pub loop-c-preserved : goal.loop-c-preserved
 loop-c-preserved c =
     let old = c.loop-c.self in
-    let turn = offer_step old c.offer.new.self c.in-Some.c.items (lists_of (into_iter_items c.next.new.self)) c.offer.ensures.list in
+    let turn = offer_step old c.offer_from-from.new.self c.in-Some.c.items (lists_of (into_iter_items c.next.new.self)) c.offer_from-from.ensures in
     (turn.0 ∙ c.loop-c.invariant.0, turn.1, turn.2 ∙ sym (λ i. firsts old.cap (old.list ++ lists_of (c.in-Some.ensures.steps.0 i))) ∙ c.loop-c.invariant.2)
