@@ -76,9 +76,46 @@ fn compare_from(
     compare(&list[i], c, price, from, weights)
 }
 
-// The next number to look at, from low on and below high: the last of all at first, then the first of all, and from then on one
-// in the middle. So there are soon circuits on both sides, and what they have alike isn't compared again.
-fn probe(low: usize, high: usize, count: usize) -> usize
+// In which order circuits are looked at, to find the place of another one.
+#[derive(Clone, Copy)]
+pub(crate) enum Seek {
+    // The last one, the first one, and then one in the middle of those that are left. So there are soon circuits on both sides, and
+    // what they have alike isn't compared again.
+    Ends,
+    // The one with this number, and then on from there one after the other: for circuits that come in order, each sought from where
+    // the one before it is.
+    From(usize),
+}
+
+// The next number to look at, from low on and below high.
+fn probe(seek: Seek, low: usize, high: usize, count: usize) -> usize
+    requires { low < high }
+    ensures from { low ≤ result }
+    ensures below { result < high }
+{
+    match seek {
+        Seek::Ends => from_ends(low, high, count),
+        Seek::From(n) => from_number(n, low, high),
+    }
+}
+
+// The same from a number on.
+fn from_number(n: usize, low: usize, high: usize) -> usize
+    requires { low < high }
+    ensures from { low ≤ result }
+    ensures below { result < high }
+{
+    if n <= low {
+        low
+    } else if n < high {
+        n
+    } else {
+        high - 1
+    }
+}
+
+// The same from both ends on.
+fn from_ends(low: usize, high: usize, count: usize) -> usize
     requires { low < high }
     ensures from { low ≤ result }
     ensures below { result < high }
@@ -94,7 +131,13 @@ fn probe(low: usize, high: usize, count: usize) -> usize
 
 // How many of some circuits that are different and in order are before another one of this price, and whether it is among them.
 // What is known to be the same as in the nearest ones on both sides is the same in those between, so that it isn't compared again.
-pub(crate) fn find(list: &[Priced], c: &[Inst], price: u128, weights: [u8; 4]) -> (usize, bool)
+pub(crate) fn find(
+    list: &[Priced],
+    c: &[Inst],
+    price: u128,
+    weights: [u8; 4],
+    seek: Seek,
+) -> (usize, bool)
     requires ordered { AreOrdered weights (circuits_of list.now) }
     requires prices { ArePriced weights list.now }
     requires price { price ≡ cost weights c.now }
@@ -108,7 +151,7 @@ pub(crate) fn find(list: &[Priced], c: &[Inst], price: u128, weights: [u8; 4]) -
     let mut low_same = 0;
     let mut high_same = 0;
     while low < high {
-        let middle = probe(low, high, list.len());
+        let middle = probe(seek, low, high, list.len());
         let (order, same) =
             compare_from(list, middle, c, price, low_same.min(high_same), weights);
         if order.is_lt() {

@@ -4,11 +4,12 @@ ghost use Rattle.std.specs.List.{insert, filter};
 ghost use Rattle.qz_circ.specs.ProgramCircuits.{ProgramCircuit, AreWeights, ones, cost};
 ghost use Rattle.qz_circ.specs.Queue.{IsQueue, IsRefused, firsts};
 ghost use Rattle.qz_queue.specs.Bars.{IsBar};
+ghost use Rattle.qz_queue.specs.HeldQueue.{IsPlace};
 ghost use Rattle.qz_circ.specs.Vectors.{lists_of};
 ghost use Rattle.qz_queue.specs.Circuits.{circuits_of, ArePriced};
 
 use crate::bar::{Bar, bar_of};
-use crate::place::find;
+use crate::place::{Seek, find};
 use crate::priced::Priced;
 use qz_circ::{Inst, Memory, price};
 use std::alloc::Global;
@@ -140,6 +141,53 @@ impl Queue {
         self.weights
     }
 
+    // Where a circuit of this cost would stand, sought in this order, and whether it is refused.
+    fn place_by(&self, c: &[Inst], price: u128, seek: Seek) -> (usize, bool)
+        requires { price ≡ cost self.now.weights c.now }
+        ensures refused { (result.1 ≡ true) ↔ IsRefused self.now c.now }
+        ensures same { result.1 ≡ true → firsts self.now.weights self.now.cap (c.now ∷ self.now.list) ≡ self.now.list }
+        ensures place { result.1 ≡ false → IsPlace self.now c.now result.0 }
+    {
+        let (place, found) = find(&self.list, c, price, self.weights, seek);
+        if found {
+            return (place, true);
+        }
+        (place, place == self.cap)
+    }
+
+    /// Where a circuit, whose cost is known, would stand, if it isn't refused.
+    pub fn place(&self, c: &[Inst], price: u128) -> Option<usize>
+        requires { price ≡ cost self.now.weights c.now }
+        ensures none { (result ≡ None) ↔ IsRefused self.now c.now }
+        ensures same { result ≡ None → firsts self.now.weights self.now.cap (c.now ∷ self.now.list) ≡ self.now.list }
+        ensures some { IfSome result (IsPlace self.now c.now) }
+    {
+        let (place, refused) = self.place_by(c, price, Seek::Ends);
+        if refused { None } else { Some(place) }
+    }
+
+    /// Puts a circuit that isn't refused, and whose cost is known, in its place, and drops the last one where there are then too many.
+    /// It takes no memory.
+    pub fn put_at(&mut self, place: usize, c: Vec<Inst>, price: u128)
+        requires price { price ≡ cost self.old.weights c.items }
+        requires place { IsPlace self.old c.items place }
+        ensures { self.new ≡ record self.old { list = firsts self.old.weights self.old.cap (c.items ∷ self.old.list) } }
+    {
+        put(&mut self.list, self.cap, place, Priced { price, gates: c });
+    }
+
+    // Offers a circuit of this cost, whose place is sought from a number on; the place.
+    fn offer_from(&mut self, c: Vec<Inst>, price: u128, from: usize) -> usize
+        requires { price ≡ cost self.old.weights c.items }
+        ensures { self.new ≡ record self.old { list = firsts self.old.weights self.old.cap (c.items ∷ self.old.list) } }
+    {
+        let (place, refused) = self.place_by(&c, price, Seek::From(from));
+        if !refused {
+            self.put_at(place, c, price);
+        }
+        place
+    }
+
     /// Puts a circuit in its place, and drops the last one where there are then too many. False, with nothing changed, where
     /// the circuit is there, or where as many earlier ones are there as the queue holds at most. It takes no memory.
     pub fn offer(&mut self, c: Vec<Inst>) -> bool
@@ -158,14 +206,12 @@ impl Queue {
         ensures refused { (result ≡ false) ↔ IsRefused self.old c.items }
         ensures kept { result ≡ false → self.new ≡ self.old }
     {
-        let (place, found) = find(&self.list, &c, price, self.weights);
-        if place == self.cap {
+        let (place, refused) = self.place_by(&c, price, Seek::Ends);
+        if refused {
             return false;
         }
-        if found {
-            return false;
-        }
-        put(&mut self.list, self.cap, place, Priced { price, gates: c })
+        self.put_at(place, c, price);
+        true
     }
 
     /// Takes out the first k circuits, or all where there are fewer. After an error nothing has changed.
@@ -202,8 +248,9 @@ impl Queue {
         ensures { self.new ≡ record self.old { list = firsts self.old.weights self.old.cap (self.old.list ++ other.list) } }
     {
         let _ = &self.list;
+        let mut from = 0;
         for c in other.list {
-            self.offer_at(c.gates, c.price);
+            from = self.offer_from(c.gates, c.price, from);
         }
     }
 
@@ -246,8 +293,7 @@ impl Queue {
         ensures exact { IsTrue result ↔ IsRefused self.now c.now }
         ensures same { IsTrue result → firsts self.now.weights self.now.cap (c.now ∷ self.now.list) ≡ self.now.list }
     {
-        let (place, found) = find(&self.list, c, price, self.weights);
-        found || place == self.cap
+        self.place_by(c, price, Seek::Ends).1
     }
 
     /// Whether as many circuits of less than this cost are there as the queue holds at most, so that it refuses each circuit of

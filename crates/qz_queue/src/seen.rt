@@ -4,7 +4,7 @@ ghost use Rattle.qz_circ.specs.ProgramCircuits.{ones, program_cmp};
 ghost use Rattle.qz_circ.specs.Queue.{different};
 ghost use Rattle.qz_circ.specs.Search.{is_among};
 
-use crate::place::find;
+use crate::place::{Seek, find};
 use crate::priced::Priced;
 use qz_circ::{Inst, Memory};
 use std::alloc::Global;
@@ -47,7 +47,7 @@ impl Seen {
         ensures err { OnErr result (self.new ≡ self.old) }
     {
         let price = c.len() as u128;
-        let (place, found) = find(&self.list, &c, price, ONES);
+        let (place, found) = find(&self.list, &c, price, ONES, Seek::Ends);
         if found {
             return Ok(());
         }
@@ -61,6 +61,6 @@ impl Seen {
     pub fn contains(&self, c: &[Inst]) -> bool
         ensures { result ≡ is_among self.now c.now }
     {
-        find(&self.list, c, c.len() as u128, ONES).1
+        find(&self.list, c, c.len() as u128, ONES, Seek::Ends).1
     }
 }

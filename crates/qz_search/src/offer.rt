@@ -25,13 +25,14 @@ pub(crate) fn offer_child(test: &Filter, c: Vec<Inst>, n: u64, queue: &mut Queue
     ensures offered { queue.new ≡ offered_to queue.old (filter (is_new queue.old.weights test.now.seen test.now.most) (c.items ∷ [])) }
 {
     let price = u128::from(n);
-    if queue.refuses(&c, price) {
+    let Some(place) = queue.place(&c, price) else {
         return false;
-    }
+    };
     if !test.passes(&c, n) {
         return false;
     }
-    queue.offer_at(c, price)
+    queue.put_at(place, c, price);
+    true
 }
 
 // Offers to the queue what each of these circuits becomes by one step with the rules, where it is new.

@@ -7,8 +7,8 @@ pub returns-clause-offered : goal.returns-clause-offered
 returns-clause-offered c =
     let ws = c.args.queue.now.weights in
     let new : is_new ws c.args.test.now.seen c.args.test.now.most c.args.c.items ≡ true = rw c.deref-2.ensures.value at (sym (c.passes.ensures ws (rw c.deref-2.ensures.value c.requires.cost)) ∙ c.if-not-passes.false) in
-    one_offered c.args.queue.now c.offer_at.new.self c.args.c.items _ new c.offer_at.ensures.list
+    one_offered c.args.queue.now c.put_at.new.self c.args.c.items _ new c.put_at.ensures
 
-pub returns-then-refuses-clause-offered : goal.returns-then-refuses-clause-offered
-returns-then-refuses-clause-offered c =
-    closed_lost c.args.queue.now c.args.test.now.seen c.args.test.now.most c.args.c.items c.requires.lawful (rw c.deref.ensures.value at (c.refuses.ensures.same c.if-refuses.true))
+pub returns-in_default-clause-offered : goal.returns-in_default-clause-offered
+returns-in_default-clause-offered c =
+    closed_lost c.args.queue.now c.args.test.now.seen c.args.test.now.most c.args.c.items c.requires.lawful (rw c.deref.ensures.value at (c.place.ensures.same c.in_default.is))
