@@ -66,48 +66,87 @@ walked_first left c p steps = record { size = refl; first = refl; same = λ ps h
     by ps j true e h = let here : j ≡ 0 = sym (eqb-true 0 j e) in ap (λ k. get_or (p ∷ p ∷ p ∷ p ∷ p ∷ p ∷ []) k 0) here ∙ sym (ap (λ k. get_or (p ∷ ps) k 0) here)
     by ps j false e h = cc
 
-module _ (left : Circuit) (c : ProgramCircuit) (p : ℕ) (steps : List Step) (links : List Link) (k : ℕ) (found : List ℕ) (short : length left ≤ 6) (on : IsOn 3 3 left) (lawful : AllByRecursion (IsProgramGate 64) c) (walk : IsWalk left steps) (linked : AreLinksOf c links) (h : IsWalked left c p steps k found) (d : Step) (more : k < length steps) where
-  follows : IsStep left (get_or steps k d) × (is_listed (reached (0 ∷ []) (take k steps)) (get_or steps k d).from ≡ true) × (0 < (get_or steps k d).to)
-  follows = follows_at left d (0 ∷ []) steps walk.follows k more
+module _ (left : Circuit) (c : ProgramCircuit) (p : ℕ) (steps : List Step) (links : List Link) (k : ℕ) (short : length left ≤ 6) (on : IsOn 3 3 left) (lawful : AllByRecursion (IsProgramGate 64) c) (walk : IsWalk left steps) (linked : AreLinksOf c links) (d : Step) (more : k < length steps) where
+  step_follows : IsStep left (get_or steps k d) × (is_listed (reached (0 ∷ []) (take k steps)) (get_or steps k d).from ≡ true) × (0 < (get_or steps k d).to)
+  step_follows = follows_at left d (0 ∷ []) steps walk.follows k more
 
-  pub walk_within : IsWithin left (get_or steps k d)
-  walk_within = step_within left (get_or steps k d) follows.0
+  step_stays : IsWithin left (get_or steps k d)
+  step_stays = step_within left (get_or steps k d) step_follows.0
 
-  -- the next link leads to the next gate of each match
-  pub walk_beside : (ps : List ℕ) → Matches left c p ps → beside links (get_or found (get_or steps k d).from 0) (get_or steps k d).operand (get_or steps k d).forward ≡ Some (get_or (p ∷ ps) (get_or steps k d).to 0)
-  walk_beside ps m =
+  -- in each match the link from where a step starts leads to where it ends
+  pub match_beside : (ps : List ℕ) → Matches left c p ps → beside links (get_or (p ∷ ps) (get_or steps k d).from 0) (get_or steps k d).operand (get_or steps k d).forward ≡ Some (get_or (p ∷ ps) (get_or steps k d).to 0)
+  match_beside ps m =
       let matched = match-is left c p ps on lawful m in
-      let step = follows.0 in
-      let from = walk_within.from in
+      let step = step_follows.0 in
+      let from = step_stays.from in
       let gate = gate_of_at m.binding (gate_at c) left (p ∷ ps) matched.gates (get_or steps k d).from from in
       let operand = operand_bound m.binding (rule_gate_at left (get_or steps k d).from) (gate_at c (get_or (p ∷ ps) (get_or steps k d).from 0)) (get_or steps k d).operand step.qubit gate step.operand in
-      let here : get_or found (get_or steps k d).from 0 ≡ get_or (p ∷ ps) (get_or steps k d).from 0 = h.same ps m (get_or steps k d).from follows.1 in
-      ap (λ x. beside links x (get_or steps k d).operand (get_or steps k d).forward) here ∙
       by matched operand.0 operand.1 operand.2 (get_or steps k d).forward (get_or steps k d).from (get_or steps k d).to refl step.beside
     where
-      by : (matched : IsMatch left c (p ∷ ps) m.binding) (w : ℕ) → slice_get (qubits_of (gate_at c (get_or (p ∷ ps) (get_or steps k d).from 0))) (get_or steps k d).operand ≡ Some w → slot m.binding.qubits (follows.0).qubit ≡ Some w → (forward : Bool) (from to : ℕ) → from ≡ (get_or steps k d).from → AreBeside forward (acts_at left (follows.0).qubit) (length left) from to → beside links (get_or (p ∷ ps) from 0) (get_or steps k d).operand forward ≡ Some (get_or (p ∷ ps) to 0)
+      by : (matched : IsMatch left c (p ∷ ps) m.binding) (w : ℕ) → slice_get (qubits_of (gate_at c (get_or (p ∷ ps) (get_or steps k d).from 0))) (get_or steps k d).operand ≡ Some w → slot m.binding.qubits (step_follows.0).qubit ≡ Some w → (forward : Bool) (from to : ℕ) → from ≡ (get_or steps k d).from → AreBeside forward (acts_at left (step_follows.0).qubit) (length left) from to → beside links (get_or (p ∷ ps) from 0) (get_or steps k d).operand forward ≡ Some (get_or (p ∷ ps) to 0)
       by matched w has bound true from to e near =
-          let stand = match_neighbours left c (p ∷ ps) m.binding matched (follows.0).qubit w from to bound near in
+          let stand = match_neighbours left c (p ∷ ps) m.binding matched (step_follows.0).qubit w from to bound near in
           linked.next (get_or (p ∷ ps) from 0) (get_or (p ∷ ps) to 0) w (get_or steps k d).operand (omega arith) (subst (λ x. slice_get (qubits_of (gate_at c (get_or (p ∷ ps) x 0))) (get_or steps k d).operand ≡ Some w) (sym e) has) stand
       by matched w has bound false from to e near =
-          let stand = match_neighbours left c (p ∷ ps) m.binding matched (follows.0).qubit w to from bound near in
+          let stand = match_neighbours left c (p ∷ ps) m.binding matched (step_follows.0).qubit w to from bound near in
           linked.previous (get_or (p ∷ ps) to 0) (get_or (p ∷ ps) from 0) w (get_or steps k d).operand stand.in_range (subst (λ x. slice_get (qubits_of (gate_at c (get_or (p ∷ ps) x 0))) (get_or steps k d).operand ≡ Some w) (sym e) has) stand
+
+-- in each match the gates stand within the program, at gates of the same kinds
+pub match_alike : (left : Circuit) (c : ProgramCircuit) (p : ℕ) → IsOn 3 3 left → AllByRecursion (IsProgramGate 64) c → (ps : List ℕ) → Matches left c p ps → (i : ℕ) → i < length left → (get_or (p ∷ ps) i 0 < length c) × (is_alike (rule_gate_at left i) (gate_at c (get_or (p ∷ ps) i 0)) ≡ true)
+match_alike left c p on lawful ps m i l =
+    let matched = match-is left c p ps on lawful m in
+    let size = matched.size in
+    ((rise_from 0 (length c) (p ∷ ps) matched.rising i (omega arith)).1, alike_of m.binding (rule_gate_at left i) (gate_at c (get_or (p ∷ ps) i 0)) (gate_of_at m.binding (gate_at c) left (p ∷ ps) matched.gates i l))
+
+-- one step more is walked, to where it leads in each match
+pub walked_with : (left : Circuit) (c : ProgramCircuit) (p : ℕ) (steps : List Step) (k : ℕ) (found : List ℕ) → length left ≤ 6 → IsWalk left steps → IsWalked left c p steps k found → (d : Step) → k < length steps → (next : ℕ) → ((ps : List ℕ) → Matches left c p ps → next ≡ get_or (p ∷ ps) (get_or steps k d).to 0)
+    → IsWalked left c p steps (k + 1) (slice_set found (get_or steps k d).to next)
+walked_with left c p steps k found short walk h d more next known =
+    let follows = follows_at left d (0 ∷ []) steps walk.follows k more in
+    let to = (step_within left (get_or steps k d) follows.0).to in
+    let size = h.size in
+    let later = follows.2 in
+    let other : 0 ≢ (get_or steps k d).to = omega arith in
+    record {
+      size = length-set found (get_or steps k d).to next ∙ h.size;
+      first = get_or-set_other found (get_or steps k d).to 0 next 0 other ∙ h.first;
+      same = λ ps m j listed. by ps m j to size ((get_or steps k d).to == j) refl (sym (grown j) ∙ listed) (cases_eq j (get_or steps k d).to);
+    }
+  where
+    grown : (j : ℕ) → is_listed (reached (0 ∷ []) (take (k + 1) steps)) j ≡ (((get_or steps k d).to == j) || is_listed (reached (0 ∷ []) (take k steps)) j)
+    grown j = ap (λ ss. is_listed (reached (0 ∷ []) ss) j) (take_more steps k d more) ∙ ap (λ seen. is_listed seen j) (reached-push (0 ∷ []) (take k steps) (get_or steps k d))
+
+    by : (ps : List ℕ) → Matches left c p ps → (j : ℕ) → (get_or steps k d).to < length left → length found ≡ 6 → (b : Bool) → ((get_or steps k d).to == j) ≡ b → (b || is_listed (reached (0 ∷ []) (take k steps)) j) ≡ true → (j ≡ (get_or steps k d).to) ⊎ (j ≢ (get_or steps k d).to) → get_or (slice_set found (get_or steps k d).to next) j 0 ≡ get_or (p ∷ ps) j 0
+    by ps m j to size b e listed (inl same) =
+        ap (λ i. get_or (slice_set found (get_or steps k d).to next) i 0) same ∙ get_or-set_same found (get_or steps k d).to next 0 (omega arith) ∙ known ps m ∙ ap (λ i. get_or (p ∷ ps) i 0) (sym same)
+    by ps m j to size true e listed (inr other) = absurd (other (sym (eqb-true (get_or steps k d).to j e)))
+    by ps m j to size false e listed (inr other) = get_or-set_other found (get_or steps k d).to j next 0 other ∙ h.same ps m j listed
+
+module _ (left : Circuit) (c : ProgramCircuit) (p : ℕ) (steps : List Step) (links : List Link) (k : ℕ) (found : List ℕ) (short : length left ≤ 6) (on : IsOn 3 3 left) (lawful : AllByRecursion (IsProgramGate 64) c) (walk : IsWalk left steps) (linked : AreLinksOf c links) (h : IsWalked left c p steps k found) (d : Step) (more : k < length steps) where
+  -- the next link leads to the next gate of each match
+  walk_beside : (ps : List ℕ) → Matches left c p ps → beside links (get_or found (get_or steps k d).from 0) (get_or steps k d).operand (get_or steps k d).forward ≡ Some (get_or (p ∷ ps) (get_or steps k d).to 0)
+  walk_beside ps m =
+      let here : get_or found (get_or steps k d).from 0 ≡ get_or (p ∷ ps) (get_or steps k d).from 0 = h.same ps m (get_or steps k d).from (follows_at left d (0 ∷ []) steps walk.follows k more).1 in
+      ap (λ x. beside links x (get_or steps k d).operand (get_or steps k d).forward) here ∙ match_beside left c p steps links k short on lawful walk linked d more ps m
 
   pub walk_stops : beside links (get_or found (get_or steps k d).from 0) (get_or steps k d).operand (get_or steps k d).forward ≡ None → AreOnly left c p None
   walk_stops none = λ ps m. let there = walk_beside ps m in let wrong : None ≡ Some (get_or (p ∷ ps) (get_or steps k d).to 0) = sym none ∙ there in cc
 
-  -- a match stands where the link leads, within the program and at a gate of the same kind
-  pub walk_alike : (next : ℕ) → beside links (get_or found (get_or steps k d).from 0) (get_or steps k d).operand (get_or steps k d).forward ≡ Some next → (ps : List ℕ) → Matches left c p ps → (next < length c) × (is_alike (rule_gate_at left (get_or steps k d).to) (gate_at c next) ≡ true)
-  walk_alike next there ps m =
-      let matched = match-is left c p ps on lawful m in
+  -- a match stands where the link leads
+  walk_there : (next : ℕ) → beside links (get_or found (get_or steps k d).from 0) (get_or steps k d).operand (get_or steps k d).forward ≡ Some next → (ps : List ℕ) → Matches left c p ps → next ≡ get_or (p ∷ ps) (get_or steps k d).to 0
+  walk_there next there ps m =
       let leads = walk_beside ps m in
       let both : Some next ≡ Some (get_or (p ∷ ps) (get_or steps k d).to 0) = sym there ∙ leads in
-      let known : get_or (p ∷ ps) (get_or steps k d).to 0 ≡ next = cc in
-      let to = walk_within.to in
-      let size = matched.size in
-      let gate = gate_of_at m.binding (gate_at c) left (p ∷ ps) matched.gates (get_or steps k d).to to in
-      let in_range = (rise_from 0 (length c) (p ∷ ps) matched.rising (get_or steps k d).to (omega arith)).1 in
-      (omega arith, alike_of m.binding (rule_gate_at left (get_or steps k d).to) (gate_at c next) (subst (λ x. IsGateOf m.binding (rule_gate_at left (get_or steps k d).to) (gate_at c x)) known gate))
+      cc
+
+  -- within the program and at a gate of the same kind
+  walk_alike : (next : ℕ) → beside links (get_or found (get_or steps k d).from 0) (get_or steps k d).operand (get_or steps k d).forward ≡ Some next → (ps : List ℕ) → Matches left c p ps → (next < length c) × (is_alike (rule_gate_at left (get_or steps k d).to) (gate_at c next) ≡ true)
+  walk_alike next there ps m =
+      let to = (step_stays left c p steps links k short on lawful walk linked d more).to in
+      let stands = match_alike left c p on lawful ps m (get_or steps k d).to to in
+      let known = walk_there next there ps m in
+      let within = stands.0 in
+      (omega arith, ap (λ x. is_alike (rule_gate_at left (get_or steps k d).to) (gate_at c x)) known ∙ stands.1)
 
   pub walk_leaves : (next : ℕ) → beside links (get_or found (get_or steps k d).from 0) (get_or steps k d).operand (get_or steps k d).forward ≡ Some next → length c ≤ next → AreOnly left c p None
   walk_leaves next there over = λ ps m. let within = (walk_alike next there ps m).0 in omega arith
@@ -116,26 +155,7 @@ module _ (left : Circuit) (c : ProgramCircuit) (p : ℕ) (steps : List Step) (li
   walk_differs next there unlike = λ ps m. let alike = (walk_alike next there ps m).1 in let wrong : true ≡ false = sym alike ∙ unlike in cc
 
   pub walked_more : (next : ℕ) → beside links (get_or found (get_or steps k d).from 0) (get_or steps k d).operand (get_or steps k d).forward ≡ Some next → IsWalked left c p steps (k + 1) (slice_set found (get_or steps k d).to next)
-  walked_more next there =
-      let to = walk_within.to in
-      let size = h.size in
-      let later = follows.2 in
-      let other : 0 ≢ (get_or steps k d).to = omega arith in
-      record {
-        size = length-set found (get_or steps k d).to next ∙ h.size;
-        first = get_or-set_other found (get_or steps k d).to 0 next 0 other ∙ h.first;
-        same = λ ps m j listed. by ps m j to size ((get_or steps k d).to == j) refl (sym (grown j) ∙ listed) (cases_eq j (get_or steps k d).to);
-      }
-    where
-      grown : (j : ℕ) → is_listed (reached (0 ∷ []) (take (k + 1) steps)) j ≡ (((get_or steps k d).to == j) || is_listed (reached (0 ∷ []) (take k steps)) j)
-      grown j = ap (λ ss. is_listed (reached (0 ∷ []) ss) j) (take_more steps k d more) ∙ ap (λ seen. is_listed seen j) (reached-push (0 ∷ []) (take k steps) (get_or steps k d))
-
-      by : (ps : List ℕ) → Matches left c p ps → (j : ℕ) → (get_or steps k d).to < length left → length found ≡ 6 → (b : Bool) → ((get_or steps k d).to == j) ≡ b → (b || is_listed (reached (0 ∷ []) (take k steps)) j) ≡ true → (j ≡ (get_or steps k d).to) ⊎ (j ≢ (get_or steps k d).to) → get_or (slice_set found (get_or steps k d).to next) j 0 ≡ get_or (p ∷ ps) j 0
-      by ps m j to size b e listed (inl same) =
-          let known : next ≡ get_or (p ∷ ps) (get_or steps k d).to 0 = (let leads = walk_beside ps m in let both : Some next ≡ Some (get_or (p ∷ ps) (get_or steps k d).to 0) = sym there ∙ leads in cc) in
-          ap (λ i. get_or (slice_set found (get_or steps k d).to next) i 0) same ∙ get_or-set_same found (get_or steps k d).to next 0 (omega arith) ∙ known ∙ ap (λ i. get_or (p ∷ ps) i 0) (sym same)
-      by ps m j to size true e listed (inr other) = absurd (other (sym (eqb-true (get_or steps k d).to j e)))
-      by ps m j to size false e listed (inr other) = get_or-set_other found (get_or steps k d).to j next 0 other ∙ h.same ps m j listed
+  walked_more next there = walked_with left c p steps k found short walk h d more next (walk_there next there)
 
 pub walked_all : (left : Circuit) (c : ProgramCircuit) (p : ℕ) (steps : List Step) (found : List ℕ) (k : ℕ) → length left ≤ 6 → 0 < length left → IsOn 3 3 left → AllByRecursion (IsProgramGate 64) c → IsWalk left steps → take k steps ≡ steps → IsWalked left c p steps k found → AreOnly left c p (Some found)
 walked_all left c p steps found k short some on lawful walk whole h = (h.size, all, first)

@@ -12,3 +12,7 @@ pub mod Starts
 pub mod Candidates
 pub mod UsableRules
 pub mod Lacking
+pub mod Following
+pub mod RowSteps
+pub mod WordSteps
+pub mod WordsLead

@@ -4,3 +4,5 @@ pub mod Walks
 pub mod Starts
 pub mod Flags
 pub mod Occurring
+pub mod Words
+pub mod Rows

@@ -8,12 +8,14 @@ ghost use Rattle.qz_circ.specs.Places.{all_places, places};
 ghost use Rattle.qz_match.specs.Neighbours.{AreLinksOf, AreNeighboursOf};
 ghost use Rattle.qz_match.specs.Walks.{IsWalk};
 ghost use Rattle.qz_match.specs.Starts.{may_have, is_alike, rises, tested, starting, AreOnly};
+ghost use Rattle.qz_match.specs.Words.{AreReached};
 ghost use Rattle.qz_circ.specs.ProgramLimits.{most_qubits};
 
 use crate::bind::bound_at;
 use crate::gather::gather_at;
 use crate::neighbours::Neighbours;
 use crate::place::Place;
+use crate::rows::Cursor;
 use crate::walk::Walk;
 use qz_circ::{Expr, Inst, Memory, Op, constant_turn};
 use std::alloc::Global;
@@ -31,7 +33,7 @@ fn may_have(e: Expr, k: u16) -> bool
 
 // The gates are of one kind, and the angle of a rotation may be that of the other.
 #[inline(always)]
-fn are_alike(f: Op, g: Inst) -> bool
+pub(crate) fn are_alike(f: Op, g: Inst) -> bool
     ensures { result ≡ is_alike f g }
 {
     match (f, g) {
@@ -107,6 +109,38 @@ fn tested_at(left: &[Op], c: &[Inst], found: &[usize; 6]) -> Option<Place>
         return None;
     }
     Some(Place::new(found, count, binding))
+}
+
+// The only positions from the first one on at which the left side may stand, by those to which its words lead.
+fn arranged(left: &[Op], walk: &Walk, c: &[Inst], cursor: &Cursor) -> [usize; 6]
+    requires short { length left.now ≤ 6 }
+    requires some { 0 < length left.now }
+    requires on { IsOn 3 3 left.now }
+    requires lawful { AllByRecursion (IsProgramGate most_qubits) c.now }
+    requires walk { IsWalk left.now walk.now }
+    requires reached { AreReached left.now walk.now c.now cursor.now.first cursor.now.found }
+    ensures { AreOnly left.now c.now cursor.now.first (Some result) }
+{
+    let mut positions = [cursor.first; 6];
+    let steps = walk.steps();
+    for k in 0..steps.len() {
+        positions[steps[k].to] = cursor.found[k + 1];
+    }
+    positions
+}
+
+/// The place that begins where a table of left sides is asked, of one whose words all lead somewhere, if there is one.
+pub fn place_found(left: &[Op], walk: &Walk, c: &[Inst], cursor: &Cursor) -> Option<Place>
+    requires short { length left.now ≤ 6 }
+    requires some { 0 < length left.now }
+    requires on { IsOn 3 3 left.now }
+    requires lawful { AllByRecursion (IsProgramGate most_qubits) c.now }
+    requires walk { IsWalk left.now walk.now }
+    requires reached { AreReached left.now walk.now c.now cursor.now.first cursor.now.found }
+    requires within { cursor.now.first < length c.now }
+    ensures { option_to_list result ≡ starting left.now c.now cursor.now.first }
+{
+    tested_at(left, c, &arranged(left, walk, c, cursor))
 }
 
 // The place that begins at p, if there is one.

@@ -70,7 +70,8 @@ impl Walk {
 
     // The steps in order.
     pub(crate) fn steps(&self) -> &[Step]
-        ensures { result.now ≡ self.now }
+        ensures same { result.now ≡ self.now }
+        ensures few { length result.now ≤ 5 }
     {
         &self.found[..self.count]
     }
