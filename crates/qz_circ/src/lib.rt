@@ -33,7 +33,7 @@ pub use constant::{constant_of, constant_turn, multiple_of};
 pub use fault::{AngleFault, LexFault, LimitFault, Memory, QasmFault, RuleFault, Which};
 pub use gate_name::GateName;
 pub use order::{prec, prec_insts};
-pub use program::{Arg, Args, Program, Register, Tail};
+pub use program::{Arg, Args, Program, Register, Tail, total_size};
 pub use program_limits::{
     LONGEST_WORD, MOST_BITS, MOST_DIGITS, MOST_GATES, MOST_QUBITS, MOST_REGISTERS,
 };
