@@ -25,7 +25,7 @@ use Rattle.qz_top.proofs.InputLemmas.{short_answer, long_answer, ends_late, ends
 -- ---- bytes that are refused
 
 -- the status of an answer
-status_of : Answer → Status
+abbrev status_of : Answer → Status
 status_of a = a.status
 
 -- a refusal is not success

@@ -62,14 +62,14 @@ rose_later before mid after kept (inr last) = inr last
 module _ (limit : FileLimit) (name : List ℕ) where
   -- a file that was read whole
   pub file_made : {A : Type 0} (bytes : Vec ℕ A) (opened : Storage) (input : Input) → IsOpened name input.old opened → opened.faults_after ≡ input.faults_before → opened.answers_faults ≡ input.answers_faults →
-      IsReadWhole limit.most (Ok bytes) input → length bytes.items ≤ limit.most → IsFileRead limit name bytes.items (read_after opened input)
-  file_made bytes opened input open_is joins same read short =
+      IsReadWhole limit.most (Ok bytes) input → IsFileRead limit name bytes.items (read_after opened input)
+  file_made bytes opened input open_is joins same read =
       let given = file_given opened.files name input.old input.new bytes.items open_is.found open_is.whole read.whole in
       record {
         files = given.0;
         told = given.1;
         named = given.3 ∙ ap (λ (rest : List ℕ). Some (bytes.items ++ rest)) (given.4 read.at_end) ∙ ap Some (append-nil bytes.items);
-        short = short;
+        short = omega (arith, bytes.ok.0, read.within);
         answered = calm_in_all opened input open_is joins same (λ h. read.answered h (λ e. cc));
       }
 

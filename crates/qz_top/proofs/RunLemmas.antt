@@ -76,7 +76,8 @@ module _ (words : List (List ℕ)) (command other : Command) (k : ℕ) (name : L
   pub taken_by_name : (limit : FileLimit) (wanted : NamedFile) (told : Option Files) (file : List ℕ) (before after : Option (List ℕ)) (s : Status) → file_of other ≡ Some (record { word = k; limit = limit }) → file_of command ≡ Some wanted →
       (TellsFile told name file → TakesFile limit file before after s) → TellsFile told (word_at words wanted.word) file → TakesFile wanted.limit file before after s
   taken_by_name limit wanted told file before after s opens same takes =
-      let one : (record { word = k; limit = limit }) ≡ wanted = one_file _ wanted (sym opens ∙ sym (ap file_of is) ∙ same) in
+      let first : NamedFile = record { word = k; limit = limit } in
+      let one : first ≡ wanted = one_file first wanted (sym opens ∙ sym (ap file_of is) ∙ same) in
       subst (λ (w : NamedFile). TellsFile told (word_at words w.word) file → TakesFile w.limit file before after s) one (λ tells. takes (subst (λ (n : List ℕ). TellsFile told n file) (sym named) tells))
 
 -- what an optimisation writes

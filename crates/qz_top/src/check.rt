@@ -2,7 +2,8 @@
 ghost use Rattle.std.specs.Prelude.{◌≡◌, ◌≢◌, ℕ, ◌+◌, ◌≤◌, ◌⊎◌, List, length, Some, None, Ok, Err, IfOk, IfErr, OnOk, MatchResult};
 ghost use Rattle.std.specs.Io.KnownBytes.{IsAtEnd};
 ghost use Rattle.qz_circ.specs.Grammar.{program_of};
-ghost use Rattle.qz_circ.specs.ProgramCircuits.{is_program_h, program_halves};
+ghost use Rattle.qz_circ.specs.ProgramCircuits.{program_halves};
+ghost use Rattle.qz_circ.specs.ProgramLimits.{most_gates};
 ghost use Rattle.qz_circ.specs.Registers.{total_size};
 ghost use Rattle.qz_circ.specs.ValidPrograms.{Valid};
 ghost use Rattle.qz_io.specs.Told.{TakesBytes};
@@ -76,6 +77,8 @@ fn qubits_of(program: &Program) -> u64
 // The first limit that two circuits on q qubits pass, if they do.
 #[tactic(auto, using(std::proofs::lemmas::Bool::Decides::nat_tests))]
 fn check_limit(q: u64, a: &[Inst], c: &[Inst]) -> Option<Which>
+    requires first { length a.now ≤ most_gates }
+    requires second { length c.now ≤ most_gates }
     ensures limit { result ≡ check_limit q a.now c.now }
     ensures few { result ≡ None → q ≤ 6 }
     ensures halves { result ≡ None → program_halves a.now + program_halves c.now ≤ 120 }

@@ -1,4 +1,5 @@
-use Rattle.std.proofs.Common.{length, ap, arith}
+use Rattle.std.proofs.Common.{ℕ, ◌≤◌, List, length, subst, sym}
+use Rattle.qz_top.specs.Inputs.{most_input_bytes}
 use Rattle.qz_top.specs.Check.{program_file, OtherBytesAnswer}
 use Rattle.qz_top.proofs.CheckLemmas.{file_program_made}
 use Rattle.qz_top.proofs.FileLemmas.{ends_by_file, taken_for}
@@ -13,3 +14,6 @@ returns-in-Ok-clause-taken g c = λ file tells. taken_for program_file file _ _ 
 
 pub returns-in-Err-clause-made : goal.returns-in-Err-clause-made
 returns-in-Err-clause-made g c = ends_by_file program_file c.args.name.now OtherBytesAnswer c.in-Err.status _ c.in-Err.ensures.made
+
+pub program_of_file-requires : goal.program_of_file-requires
+program_of_file-requires g c = subst (λ (b : List ℕ). length b ≤ most_input_bytes) (sym c.deref.ensures.value) c.in-Ok.ensures.made.short

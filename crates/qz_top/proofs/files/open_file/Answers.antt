@@ -1,10 +1,9 @@
-use Rattle.std.proofs.Common.{length, ap, arith}
 use Rattle.qz_top.proofs.FileLemmas.{file_made, file_unread}
 use Rattle.qz_top.proofs.files.open_file.Goals as goal
 
 pub returns-in-Ok-clause-made : goal.returns-in-Ok-clause-made
 returns-in-Ok-clause-made g c = λ name opened is joins same.
-    file_made c.args.limit name c.in-Ok.bytes opened _ is joins same c.in-Ok.ensures.read (omega (arith, c.in-Ok.ensures.read.within))
+    file_made c.args.limit name c.in-Ok.bytes opened _ is joins same c.in-Ok.ensures.read
 
 pub returns-in-Err-clause-made : goal.returns-in-Err-clause-made
 returns-in-Err-clause-made g c = λ name opened is joins same.
