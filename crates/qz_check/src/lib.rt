@@ -31,8 +31,8 @@ fn is_h(gate: Inst) -> bool
     }
 }
 
-// How many gates are H.
-fn halves_of(gates: &[Inst]) -> u64
+/// How many gates are H.
+pub fn halves_of(gates: &[Inst]) -> u64
     ensures { result ≡ program_halves gates.now }
 {
     let mut halves = 0;

@@ -60,6 +60,14 @@ pub enum Which {
     TrialQubits,
     /// A trial has at most 20,000 gates.
     TrialGates,
+    /// The file of a program that is compared with the input has at most 4,194,304 bytes.
+    FileBytes,
+    /// Programs that are compared have at most 6 qubits.
+    CheckQubits,
+    /// Two programs that are compared have at most 120 H together.
+    CheckHalves,
+    /// Two programs that are compared have at most 4,000 gates together.
+    CheckGates,
 }
 
 /// Why a text can't be cut into tokens: the leftmost fault. A place is that of a byte, counted from 0.

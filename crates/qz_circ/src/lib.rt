@@ -35,7 +35,7 @@ pub use costs::{are_ones, cost, price, weight};
 pub use fault::{AngleFault, LexFault, LimitFault, Memory, QasmFault, RuleFault, Which};
 pub use gate_name::GateName;
 pub use order::{prec, prec_by, prec_insts};
-pub use program::{Arg, Args, Program, Register, Tail};
+pub use program::{Arg, Args, Program, Register, Tail, total_size};
 pub use program_limits::{
     LONGEST_WORD, MOST_BITS, MOST_DIGITS, MOST_GATES, MOST_QUBITS, MOST_REGISTERS,
 };

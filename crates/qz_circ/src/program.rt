@@ -1,5 +1,7 @@
 //! Programs: their registers, their gates, and the barriers and measurements after these.
-ghost use Rattle.std.specs.Prelude.{◌≡◌, [], ◌∷◌, ◌++◌, IfOk, OnOk, OnErr};
+ghost use Rattle.std.specs.Prelude.{◌≡◌, ◌≤◌, [], ◌∷◌, ◌++◌, length, IfOk, OnOk, OnErr};
+ghost use Rattle.qz_circ.specs.ProgramLimits.{most_registers};
+ghost use Rattle.qz_circ.specs.Registers.{total_size};
 
 use crate::circuit::Inst;
 use crate::fault::Memory;
@@ -35,6 +37,14 @@ impl Register {
     {
         self.size
     }
+}
+
+/// How many qubits or bits registers have together, of which there are at most 64.
+pub fn total_size(registers: &[Register]) -> u32
+    requires { length registers.now ≤ most_registers }
+    ensures { result ≡ total_size registers.now }
+{
+    registers.iter().map(|r| u32::from(r.size())).sum()
 }
 
 /// An operand of a barrier or a measurement: a whole register, or one place of it.

@@ -1,6 +1,6 @@
 //! What the program answers for some lists of words.
 
-use qz_circ::{Bounds, Which};
+use qz_circ::{Bounds, QasmFault, Which};
 use qz_io::{MemSink, SureShelf, SureSink, SureSource};
 use qz_samples::{two_gates, words_of};
 use qz_search::Plan;
@@ -243,6 +243,11 @@ fn reads_options(rt: HostRuntime) {
         (of_a_command, optimisation(4, [4096, 1, 100, 0], 1)),
     ];
     asks(&rt, rt.alloc(), &optimisations);
+    let checks = [
+        ("check --with f", Some(Command::Check { other: 2 })),
+        ("check --with --with", Some(Command::Check { other: 2 })),
+    ];
+    asks(&rt, rt.alloc(), &checks);
 }
 
 // ---- what is refused
@@ -305,6 +310,8 @@ fn numbers_statuses(rt: HostRuntime) {
         (Status::Limit(Which::BoundsParams), 3),
         (Status::Limit(Which::BoundsCircuits), 3),
         (Status::WriteFault, 9),
+        (Status::Shapes { input: 1, file: 2 }, 16),
+        (Status::FileQasm(QasmFault::Memory), 17),
     ];
     for (status, number) in rows {
         assert_eq!(rt; number_of(status), number);
@@ -364,6 +371,19 @@ fn reads_no_other_words(rt: HostRuntime) {
         "optimise --batch 0 --rules r --rounds x",
     ];
     usages(&rt, alloc, &options_of_optimisations);
+    let options_of_checks = [
+        "check",
+        "check f",
+        "check --with",
+        "check --with ",
+        "check --with=f",
+        "check f --with",
+        "check --with f f",
+        "check --with f --with f",
+        "check --rules f",
+        "check --with f --workers 1",
+    ];
+    usages(&rt, alloc, &options_of_checks);
 }
 
 // The words of each text pass this limit first.

@@ -1,6 +1,8 @@
-//! Tests of the words of commands, of the texts of refusals, of the commands that take no program, and of workers.
+//! Tests of the words of commands, of the texts of refusals, of the commands that take no program or two, and of workers.
 #![tactic(auto)]
 
+#[cfg(test)]
+mod checks;
 #[cfg(test)]
 mod commands;
 #[cfg(test)]

@@ -73,7 +73,7 @@ fn tells(rt: &impl Abort, alloc: Global, rows: &[(Status, &str)]) {
     }
 }
 
-fn limits() -> [(Status, &'static str); 18] {
+fn limits() -> [(Status, &'static str); 23] {
     [
         (Limit(Which::BoundsQubits), "limit: bounds-qubits\n"),
         (Limit(Which::BoundsGates), "limit: bounds-gates\n"),
@@ -94,6 +94,10 @@ fn limits() -> [(Status, &'static str); 18] {
         (Limit(Which::ProgramGates), "limit: program-gates\n"),
         (Limit(Which::TrialQubits), "limit: trial-qubits\n"),
         (Limit(Which::TrialGates), "limit: trial-gates\n"),
+        (Limit(Which::FileBytes), "limit: file-bytes\n"),
+        (Limit(Which::CheckQubits), "limit: check-qubits\n"),
+        (Limit(Which::CheckHalves), "limit: check-halves\n"),
+        (Limit(Which::CheckGates), "limit: check-gates\n"),
     ]
 }
 
@@ -155,7 +159,9 @@ fn unsound_file(class: u64, member: u64) -> Status {
     Status::Unsound { class, member }
 }
 
-fn other_statuses() -> [(Status, &'static str); 8] {
+fn other_statuses() -> [(Status, &'static str); 10] {
+    let other_file = Status::FileQasm(QasmFault::Angle(AngleFault::NotMultiple { place: 28 }));
+    let shapes = Status::Shapes { input: 1, file: 20 };
     let syntax = Status::RuleSyntax { place: u64::MAX };
     let unsound = "rules: class 12 member 345 is not equivalent to member 1\n";
     [
@@ -167,6 +173,8 @@ fn other_statuses() -> [(Status, &'static str); 8] {
         (Status::ReadFault, "read fault\n"),
         (Status::WriteFault, "write fault\n"),
         (Status::ShelfFault, "rule file fault\n"),
+        (shapes, "check: 1 and 20 qubits\n"),
+        (other_file, "file: AngleNotMultiple at 28\n"),
     ]
 }
 

@@ -14,8 +14,10 @@ ghost use Rattle.qz_qread.specs.Views as view;
 
 use crate::form::Operand;
 use crate::gate_name::{push_gates, takes_angle};
-use crate::register::{size_at, total_size};
-use qz_circ::{Arg, GateName, Inst, MOST_GATES, Program, QasmFault, Register, Token, Which};
+use crate::register::size_at;
+use qz_circ::{
+    Arg, GateName, Inst, MOST_GATES, Program, QasmFault, Register, Token, Which, total_size,
+};
 use qz_lex::angle;
 use std::alloc::{AllocError, Global};
 

@@ -16,6 +16,7 @@ use crate::form::{Declaration, Operand};
 use crate::lexeme::text_of;
 use qz_circ::{
     Arg, Kind, MOST_BITS, MOST_QUBITS, MOST_REGISTERS, Program, QasmFault, Register, Token, Which,
+    total_size,
 };
 use std::alloc::Global;
 
@@ -160,14 +161,6 @@ fn declared(bytes: &[u8], p: &Program, d: Declaration) -> Result<u64, QasmFault>
             place: u64::from(d.name.start),
         })
     }
-}
-
-// How many qubits or bits registers have together.
-pub(crate) fn total_size(registers: &[Register]) -> u32
-    requires { length registers.now ≤ most_registers }
-    ensures { result ≡ total_size registers.now }
-{
-    registers.iter().map(|r| u32::from(r.size())).sum()
 }
 
 // A register of this size more keeps the total within a limit.

@@ -30,6 +30,8 @@ refusal_writes_nothing status.NoFile r = tt
 refusal_writes_nothing status.ReadFault r = tt
 refusal_writes_nothing status.WriteFault r = r
 refusal_writes_nothing status.ShelfFault r = tt
+refusal_writes_nothing (status.Shapes input file) r = tt
+refusal_writes_nothing (status.FileQasm fault) r = tt
 
 -- at a status that comes before any input nothing is written
 pub before_writes_nothing : (s : Status) → IsBeforeInput s → WritesNothing s
@@ -44,6 +46,8 @@ before_writes_nothing status.NoFile b = tt
 before_writes_nothing status.ReadFault b = absurd b
 before_writes_nothing status.WriteFault b = b
 before_writes_nothing status.ShelfFault b = tt
+before_writes_nothing (status.Shapes input file) b = absurd b
+before_writes_nothing (status.FileQasm fault) b = tt
 
 -- what is left of the statuses where something may be written, and there is no write fault
 done_or_memory : (s : Status) → (WritesNothing s → ⊥) → s ≢ status.WriteFault → (s ≡ status.Ok) ⊎ (s ≡ status.Memory)
@@ -58,6 +62,8 @@ done_or_memory status.NoFile n w = absurd (n tt)
 done_or_memory status.ReadFault n w = absurd (n tt)
 done_or_memory status.WriteFault n w = absurd (w refl)
 done_or_memory status.ShelfFault n w = absurd (n tt)
+done_or_memory (status.Shapes input file) n w = absurd (n tt)
+done_or_memory (status.FileQasm fault) n w = absurd (n tt)
 
 -- a refusal is not success
 refusal_is_not_ok : (s : Status) → IsRefusal s → s ≢ status.Ok

@@ -10,15 +10,18 @@ use Rattle.qz_circ.specs.Programs.{ProgramParts}
 use Rattle.qz_circ.specs.RuleFiles.{RuleClasses}
 use Rattle.qz_circ.specs.Search.{PlanNumbers}
 use Rattle.qz_repgen.proofs.ReportLaws.{report_same}
+use Rattle.qz_top.specs.declared.files.FileLimit.{FileLimit}
 use Rattle.qz_top.specs.declared.words.Command.{Command}
-use Rattle.qz_top.specs.declared.words.Command.TheVariants.{Generate, Tidy, Optimise, Trial}
+use Rattle.qz_top.specs.declared.words.Command.TheVariants.{Generate, Tidy, Optimise, Trial, Check}
 use Rattle.qz_top.specs.declared.words.WordFault.{WordFault}
 use Rattle.qz_top.specs.declared.status.Status.{Status}
 use Rattle.qz_top.specs.declared.status.Status.TheVariants as status
 use Rattle.qz_top.specs.Answer.{Answer, Given, refused_with}
 use Rattle.qz_top.specs.FaultTexts.{status_text}
 use Rattle.qz_top.specs.Inputs.{most_input_bytes, program_answer, input_answer}
-use Rattle.qz_top.specs.Optimise.{optimised_text, RulesAnswer, FileAnswer, NamedAnswer}
+use Rattle.qz_top.specs.Check.{program_file, check_refusal, PairAnswer, ProgramAnswer, ComparedAnswer, OtherAnswer, OtherBytesAnswer, Checks}
+use Rattle.qz_top.specs.Files.{FileAnswer}
+use Rattle.qz_top.specs.Optimise.{rule_file, optimised_text, RulesAnswer, RuleBytesAnswer, Optimises}
 use Rattle.qz_top.specs.Reports.{report_text, IsReportText, end_text}
 use Rattle.qz_top.specs.Run.{status_of_words, CommandAnswers, WordsAnswer, TellsDone, IsForErr}
 use Rattle.qz_top.specs.Words.{command_of}
@@ -46,20 +49,41 @@ input_tells : (text : ProgramParts → List ℕ) (input : List ℕ) → TellsSta
 unfolding input_answer
 input_tells text input = either_tells (nat_lt most_input_bytes (length input)) _ _ refl (program_tells text (program_of input))
 
+-- the answers to a file
+file_tells : (limit : FileLimit) (BytesAnswer : List ℕ → Answer → Type 0) (file : Option (List ℕ)) (answer : Answer) → ((bytes : List ℕ) → BytesAnswer bytes answer → TellsStatus answer) → FileAnswer limit BytesAnswer file answer → TellsStatus answer
+file_tells limit BytesAnswer None answer tells is = refusal_tells _ answer is
+file_tells limit BytesAnswer (Some file) answer tells (inl long) = refusal_tells _ answer long.1
+file_tells limit BytesAnswer (Some file) answer tells (inr short) = tells file short.1
+
 -- the answers to what a rule file says
 rules_tell : (plan : PlanNumbers) (given : Given) (said : Result RuleClasses RuleFault) (answer : Answer) → RulesAnswer plan given said answer → TellsStatus answer
 rules_tell plan given (Ok rules) answer is = subst TellsStatus (sym is) (input_tells (optimised_text rules plan) given.input)
 rules_tell plan given (Err e) answer is = refusal_tells _ answer is
 
--- the answers to a rule file
-file_tells : (plan : PlanNumbers) (given : Given) (file : List ℕ) (answer : Answer) → FileAnswer plan given file answer → TellsStatus answer
-file_tells plan given file answer (inl long) = refusal_tells _ answer long.1
-file_tells plan given file answer (inr short) = rules_tell plan given short.1.0 answer short.1.2
+optimisation_tells : (name : List ℕ) (plan : PlanNumbers) (given : Given) (answer : Answer) → Optimises name plan given answer → TellsStatus answer
+optimisation_tells name plan given answer is = file_tells rule_file (RuleBytesAnswer plan given) (given.files name) answer (λ bytes said. rules_tell plan given said.0 answer said.2) is
 
--- the answers to a file with a name
-named_tells : (plan : PlanNumbers) (given : Given) (file : Option (List ℕ)) (answer : Answer) → NamedAnswer plan given file answer → TellsStatus answer
-named_tells plan given None answer is = refusal_tells _ answer is
-named_tells plan given (Some file) answer is = file_tells plan given file answer is
+-- the answers to two programs
+pair_tells : (p file : ProgramParts) (refused : Option Status) (answer : Answer) → PairAnswer p file refused answer → TellsStatus answer
+pair_tells p file (Some s) answer is = refusal_tells s answer is
+pair_tells p file None answer is = subst TellsStatus (sym is.2) refl
+
+-- those to what the input says
+compared_tells : (file : ProgramParts) (said : Result ProgramParts QasmFault) (answer : Answer) → ProgramAnswer file said answer → TellsStatus answer
+compared_tells file (Ok p) answer is = pair_tells p file (check_refusal p file) answer is
+compared_tells file (Err e) answer is = refusal_tells _ answer is
+
+compared_input_tells : (file : ProgramParts) (input : List ℕ) (answer : Answer) → ComparedAnswer file input answer → TellsStatus answer
+compared_input_tells file input answer (inl long) = refusal_tells _ answer long.1
+compared_input_tells file input answer (inr short) = compared_tells file (program_of input) answer short.1
+
+-- and to what the file says
+other_tells : (given : Given) (said : Result ProgramParts QasmFault) (answer : Answer) → OtherAnswer given said answer → TellsStatus answer
+other_tells given (Ok file) answer is = compared_input_tells file given.input answer is
+other_tells given (Err e) answer is = refusal_tells _ answer is
+
+check_tells : (name : List ℕ) (given : Given) (answer : Answer) → Checks name given answer → TellsStatus answer
+check_tells name given answer is = file_tells program_file (OtherBytesAnswer given) (given.files name) answer (λ bytes said. other_tells given (program_of bytes) answer said) is
 
 -- ---- what is told
 
@@ -76,6 +100,8 @@ done_or_not status.NoFile = inr (λ e. cc)
 done_or_not status.ReadFault = inr (λ e. cc)
 done_or_not status.WriteFault = inr (λ e. cc)
 done_or_not status.ShelfFault = inr (λ e. cc)
+done_or_not (status.Shapes input file) = inr (λ e. cc)
+done_or_not (status.FileQasm fault) = inr (λ e. cc)
 
 -- a report has some text
 some_report_text : (report : Report) → report_text report ≢ []
@@ -111,6 +137,7 @@ plain_done (Generate b workers seed false) text none is = is
 plain_done Tidy text none is = is
 plain_done (Optimise rules plan workers) text none is = is
 plain_done (Trial seed q g) text none is = is
+plain_done (Check other) text none is = is
 
 -- the answers of a command have the text for the error stream that the command has
 command_tells : (words : List (List ℕ)) (command : Command) (s : Status) (text : List ℕ) (given : Given) (answer : Answer) → IsForErr command s text → CommandAnswers words command given answer → answer.status ≡ s → answer.err ≡ text
@@ -120,7 +147,9 @@ command_tells words (Trial seed qubits gates) s text given answer ends is same =
 command_tells words Tidy s text given answer ends is same =
     subst TellsStatus (sym is) (input_tells _ given.input) ∙ ap status_text same ∙ sym (for_err_is_status Tidy s text (λ h. h) ends)
 command_tells words (Optimise rules plan workers) s text given answer ends is same =
-    named_tells plan given (given.files (slice_index_or words rules [])) answer is ∙ ap status_text same ∙ sym (for_err_is_status (Optimise rules plan workers) s text (λ h. h) ends)
+    optimisation_tells (slice_index_or words rules []) plan given answer is ∙ ap status_text same ∙ sym (for_err_is_status (Optimise rules plan workers) s text (λ h. h) ends)
+command_tells words (Check other) s text given answer ends is same =
+    check_tells (slice_index_or words other []) given answer is ∙ ap status_text same ∙ sym (for_err_is_status (Check other) s text (λ h. h) ends)
 
 -- the answers to words that ask for a command
 pub answer_tells : (words : List (List ℕ)) (command : Command) (s : Status) (text : List ℕ) → Ok command ≡ command_of words → IsForErr command s text → (given : Given) (answer : Answer) → WordsAnswer words given answer → answer.status ≡ s → answer.err ≡ text

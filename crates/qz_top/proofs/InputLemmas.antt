@@ -27,12 +27,12 @@ use Rattle.qz_top.proofs.AnswerLemmas.{some_input, memory_ends, refusal_ends, re
 -- ---- answers to bytes
 
 -- an input within the limit is answered by its program
-short_answer : (text : ProgramParts → List ℕ) (bytes : List ℕ) → length bytes ≤ most_input_bytes → input_answer text bytes ≡ program_answer text (program_of bytes)
+pub short_answer : (text : ProgramParts → List ℕ) (bytes : List ℕ) → length bytes ≤ most_input_bytes → input_answer text bytes ≡ program_answer text (program_of bytes)
 unfolding input_answer
 short_answer text bytes few = ap (λ b. cond b (refused_with (status.Limit which_limit.InputBytes)) (program_answer text (program_of bytes))) (le-ltb most_input_bytes (length bytes) few)
 
 -- a longer one is refused
-long_answer : (text : ProgramParts → List ℕ) (bytes : List ℕ) → most_input_bytes < length bytes → input_answer text bytes ≡ refused_with (status.Limit which_limit.InputBytes)
+pub long_answer : (text : ProgramParts → List ℕ) (bytes : List ℕ) → most_input_bytes < length bytes → input_answer text bytes ≡ refused_with (status.Limit which_limit.InputBytes)
 unfolding input_answer
 long_answer text bytes many = ap (λ b. cond b (refused_with (status.Limit which_limit.InputBytes)) (program_answer text (program_of bytes))) (lt-ltb most_input_bytes (length bytes) many)
 
@@ -129,6 +129,24 @@ ends_undone s input (inr (inr w)) = λ e. absurd (let h : status.Ok ≡ status.R
 
 -- ---- commands
 
+-- with these files, an input that is refused is answered by its status alone
+pub record RefusesInputs (Answers : Given → Answer → Type 0) (files : Files) : Type 0 where
+  pub is : (s : Status) (bytes : List ℕ) → RefusesBytes s bytes → Answers (record { input = bytes; files = files }) (refused_with s)
+  pub only : (s : Status) (bytes : List ℕ) (b : Answer) → RefusesBytes s bytes → Answers (record { input = bytes; files = files }) b → b.status ≡ s
+
+module _ (Answers : Given → Answer → Type 0) (files : Files) (refuses : RefusesInputs Answers files) (input : Input) (shelf : Storage) (told : IsTold shelf.files files)
+    (shelf_answered : IsTrue shelf.answers_faults → shelf.faults_after ≡ shelf.faults_before) where
+  -- a command with such answers ends early as the input says
+  pub ends_by_refusal : (s : Status) → EndsByInput s input → EndsEarly Answers s input shelf
+  ends_by_refusal s (inl w) =
+      refusal_ends Answers s input shelf (record { input = w.bytes; files = files }) (w.told, told) w.refuses.refusal (refuses.is s w.bytes w.refuses) (λ b h. refuses.only s w.bytes b w.refuses h) w.answered shelf_answered
+  ends_by_refusal s (inr (inl w)) =
+      let bytes = some_input input.old in
+      subst (λ t. EndsEarly Answers t input shelf) (sym w.0) (memory_ends Answers input shelf (record { input = bytes.0; files = files }) (bytes.1, told) w.1 shelf_answered)
+  ends_by_refusal s (inr (inr w)) =
+      let bytes = some_input input.old in
+      subst (λ t. EndsEarly Answers t input shelf) (sym w.0) (read_fault_ends Answers input shelf (record { input = bytes.0; files = files }) (bytes.1, told) w.1 shelf_answered)
+
 -- with these files, the answers are those to the input with this text of a program
 pub record AreOfInput (Answers : Given → Answer → Type 0) (text : ProgramParts → List ℕ) (files : Files) : Type 0 where
   pub is : (bytes : List ℕ) (b : Answer) → b ≡ input_answer text bytes → Answers (record { input = bytes; files = files }) b
@@ -138,15 +156,13 @@ module _ (Answers : Given → Answer → Type 0) (text : ProgramParts → List �
     (shelf_answered : IsTrue shelf.answers_faults → shelf.faults_after ≡ shelf.faults_before) where
   -- a command with such answers ends early as the input says
   pub ends_by_input : (s : Status) → EndsByInput s input → EndsEarly Answers s input shelf
-  ends_by_input s (inl w) =
-      refusal_ends Answers s input shelf (record { input = w.bytes; files = files }) (w.told, told) w.refuses.refusal (of_input.is w.bytes (refused_with s) (sym (w.refuses.answer text)))
-      (λ b h. ap (λ (a : Answer). a.status) (of_input.only w.bytes b h ∙ w.refuses.answer text)) w.answered shelf_answered
-  ends_by_input s (inr (inl w)) =
-      let bytes = some_input input.old in
-      subst (λ t. EndsEarly Answers t input shelf) (sym w.0) (memory_ends Answers input shelf (record { input = bytes.0; files = files }) (bytes.1, told) w.1 shelf_answered)
-  ends_by_input s (inr (inr w)) =
-      let bytes = some_input input.old in
-      subst (λ t. EndsEarly Answers t input shelf) (sym w.0) (read_fault_ends Answers input shelf (record { input = bytes.0; files = files }) (bytes.1, told) w.1 shelf_answered)
+  ends_by_input =
+      ends_by_refusal Answers files
+      (record {
+        is = λ s bytes refuses. of_input.is bytes (refused_with s) (sym (refuses.answer text));
+        only = λ s bytes b refuses h. ap (λ (a : Answer). a.status) (of_input.only bytes b h ∙ refuses.answer text);
+      })
+      input shelf told shelf_answered
 
   -- or it has the text of the program that was read
   pub written_by_input : (p : ProgramParts) (made : List ℕ) → IsProgramRead p input → made ≡ text p → IsToBeWritten Answers made input shelf

@@ -2,6 +2,8 @@ pub mod TellingLemmas
 pub mod AnswerTexts
 pub mod AnswerLemmas
 pub mod InputLemmas
+pub mod FileLemmas
+pub mod CheckLemmas
 pub mod TidyLemmas
 pub mod GenerateLemmas
 pub mod OptimisedLemmas

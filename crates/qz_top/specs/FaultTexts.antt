@@ -34,6 +34,10 @@ which_name which.ProgramBits = codes "program-bits"
 which_name which.ProgramGates = codes "program-gates"
 which_name which.TrialQubits = codes "trial-qubits"
 which_name which.TrialGates = codes "trial-gates"
+which_name which.FileBytes = codes "file-bytes"
+which_name which.CheckQubits = codes "check-qubits"
+which_name which.CheckHalves = codes "check-halves"
+which_name which.CheckGates = codes "check-gates"
 
 -- what kind of fault it is that a text can't be cut into tokens
 abbrev pub lex_kind : LexFault → List ℕ
@@ -98,16 +102,22 @@ fault_place (program.Angle fault) = angle_place fault
 fault_place (program.Limit which place) = place
 fault_place program.Memory = 0
 
+-- the text of a fault of a program, behind a few words that say whose
+abbrev pub program_text : List ℕ → QasmFault → List ℕ
+program_text whose fault = line (whose ++ fault_kind fault ++ codes " at " ++ decimal (fault_place fault))
+
 -- the text for the error stream: one line for each status but success, which has none
 abbrev pub status_text : Status → List ℕ
 status_text status.Ok = []
 status_text status.Memory = line (codes "out of memory")
 status_text status.Usage = line (codes "usage: quartz COMMAND [words]")
 status_text (status.Limit which) = line (codes "limit: " ++ which_name which)
-status_text (status.Qasm fault) = line (codes "program: " ++ fault_kind fault ++ codes " at " ++ decimal (fault_place fault))
+status_text (status.Qasm fault) = program_text (codes "program: ") fault
 status_text (status.RuleSyntax place) = line (codes "rules: Syntax at " ++ decimal place)
 status_text (status.Unsound class member) = line (codes "rules: class " ++ decimal class ++ codes " member " ++ decimal member ++ codes " is not equivalent to member 1")
 status_text status.NoFile = line (codes "no such file")
 status_text status.ReadFault = line (codes "read fault")
 status_text status.WriteFault = line (codes "write fault")
 status_text status.ShelfFault = line (codes "rule file fault")
+status_text (status.Shapes input file) = line (codes "check: " ++ decimal input ++ codes " and " ++ decimal file ++ codes " qubits")
+status_text (status.FileQasm fault) = program_text (codes "file: ") fault

@@ -6,11 +6,13 @@ pub mod FaultTexts
 pub mod Reports
 pub mod Pieces
 pub mod Answer
+pub mod Files
 pub mod Making
 pub mod Generate
 pub mod Inputs
 pub mod Tidy
 pub mod Optimise
 pub mod Trial
+pub mod Check
 pub mod Run
 pub mod Optimised

@@ -1,16 +1,16 @@
 -- What a command has made before it writes: what it has read, the text for the output, or the status that it ends with.
-use Rattle.std.specs.Prelude.{◌≡◌, ◌≢◌, ℕ, ◌≤◌, ◌⊎◌, true, IsTrue, List, length, Option, Some, Ok}
+use Rattle.std.specs.Prelude.{◌≡◌, ◌≢◌, ℕ, ◌≤◌, ◌⊎◌, IsTrue, List, length, Ok}
 use Rattle.qz_circ.specs.Grammar.{program_of}
 use Rattle.qz_circ.specs.Programs.{ProgramParts}
 use Rattle.qz_circ.specs.RuleFiles.{RuleClasses, Reads}
 use Rattle.qz_io.specs.Counts.{Rose}
-use Rattle.qz_io.specs.Files.{Files, TellsWhether, IsWholeFile}
 use Rattle.qz_io.specs.Transfers.{Input}
 use Rattle.qz_top.specs.declared.status.Status.{Status}
 use Rattle.qz_top.specs.declared.status.Status.TheVariants.{Ok as Done, Memory, ReadFault}
 use Rattle.qz_top.specs.Answer.{Answer, refused_with, done_with, Output, Storage, Given, IsTold, AreTold, IsCarriedOut}
 use Rattle.qz_top.specs.Inputs.{most_input_bytes, input_answer}
-use Rattle.qz_top.specs.Optimise.{most_rule_bytes}
+use Rattle.qz_top.specs.Files.{IsFileRead}
+use Rattle.qz_top.specs.Optimise.{rule_file}
 use Rattle.qz_top.specs.Status.{IsRefusal, IsBeforeInput}
 
 -- ---- texts and statuses
@@ -36,25 +36,10 @@ EndsUnread Answers status shelf = (input : Input) → input.faults_after ≡ inp
 
 -- ---- rule files
 
--- the file with this name was opened, and the shelf tells this to be its rest; no fault of the shelf is passed over
-pub record IsOpened (name : List ℕ) (rest : Option (List ℕ)) (shelf : Storage) : Type 0 where
-  pub found : TellsWhether shelf.files name true
-  pub whole : IsWholeFile shelf.files name rest
-  pub faults : shelf.faults_before ≤ shelf.faults_after
-  pub answered : IsTrue shelf.answers_faults → shelf.faults_after ≡ shelf.faults_before
-
--- the bytes are those of the rule file with this name, within the limit, and no fault of the shelf is passed over
-pub record IsFileRead (name bytes : List ℕ) (shelf : Storage) : Type 0 where
-  pub files : Files
-  pub told : IsTold shelf.files files
-  pub named : files name ≡ Some bytes
-  pub short : length bytes ≤ most_rule_bytes
-  pub answered : IsTrue shelf.answers_faults → shelf.faults_after ≡ shelf.faults_before
-
--- the rules are those that such a file says
+-- the rules are those that the file with this name says
 pub record AreRulesRead (name : List ℕ) (rules : RuleClasses) (shelf : Storage) : Type 0 where
   pub bytes : List ℕ
-  pub read : IsFileRead name bytes shelf
+  pub read : IsFileRead rule_file name bytes shelf
   pub said : Reads bytes (Ok rules)
 
 -- the rules were read, whichever they are

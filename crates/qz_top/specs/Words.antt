@@ -15,7 +15,7 @@ use Rattle.qz_search.specs.declared.plan.PlanFault.{PlanFault}
 use Rattle.qz_search.specs.declared.plan.PlanFault.TheVariants.{Batch, Cap, Rounds, Slack, Weight}
 use Rattle.qz_search.specs.PlanFaults.{plan_refusal}
 use Rattle.qz_top.specs.declared.words.Command.{Command}
-use Rattle.qz_top.specs.declared.words.Command.TheVariants.{Generate, Tidy, Optimise, Trial}
+use Rattle.qz_top.specs.declared.words.Command.TheVariants.{Generate, Tidy, Optimise, Trial, Check}
 use Rattle.qz_top.specs.declared.words.Form.{Form}
 use Rattle.qz_top.specs.declared.words.Form.TheVariants as form
 use Rattle.qz_top.specs.declared.words.OptionName.{OptionName}
@@ -183,6 +183,15 @@ IsLawfulCommand (Generate bounds workers seed report) = AreWorkers workers
 IsLawfulCommand Tidy = Unit {0}
 IsLawfulCommand (Optimise rules plan workers) = AreWorkers workers
 IsLawfulCommand (Trial seed q g) = IsTrialSize q g
+IsLawfulCommand (Check other) = Unit {0}
+
+-- the word that the command names, if it does, is one of the first n
+abbrev pub IsWithinWords : ℕ → Command → Type 0
+IsWithinWords n (Generate bounds workers seed report) = Unit {0}
+IsWithinWords n Tidy = Unit {0}
+IsWithinWords n (Optimise rules plan workers) = rules < n
+IsWithinWords n (Trial seed q g) = Unit {0}
+IsWithinWords n (Check other) = other < n
 
 -- how many workers carry out the command
 abbrev pub workers_for : Command → ℕ
@@ -190,6 +199,7 @@ workers_for (Generate bounds workers seed report) = workers
 workers_for Tidy = 1
 workers_for (Optimise rules plan workers) = workers
 workers_for (Trial seed q g) = 1
+workers_for (Check other) = 1
 
 -- the command, unless it passes a limit
 abbrev pub unless_passed : Option Which → Command → Result Command WordFault
@@ -243,6 +253,12 @@ trial_asked (first ∷ seed ∷ q ∷ g ∷ []) =
     command_from (λ s. command_from (λ k. command_from (trial s k) (number_of g)) (number_of q)) (number_of seed)
 trial_asked words = Err Usage
 
+-- the check that words ask for: an option comes after the first word, with the name of the other program's file, which isn't
+-- empty, and nothing more
+unfoldable pub check_asked : List (List ℕ) → Result Command WordFault
+check_asked (first ∷ option ∷ file ∷ []) = if bytes_eq option (codes "--with") && nat_lt 0 (length file) then Ok (Check 2) else Err Usage
+check_asked words = Err Usage
+
 -- the command that the words ask for, of which this is the first one
 unfoldable pub command_by : List ℕ → List (List ℕ) → Result Command WordFault
 command_by first words =
@@ -250,6 +266,7 @@ command_by first words =
     else if bytes_eq first (codes "optimise") then optimisation_asked words
     else if bytes_eq first (codes "tidy") then tidying_asked words
     else if bytes_eq first (codes "trial") then trial_asked words
+    else if bytes_eq first (codes "check") then check_asked words
     else Err Usage
 
 -- the command that the words ask for; or that they are in no written form; or the first limit that they pass

@@ -41,7 +41,7 @@ fn status_of_unread(unread: Unread) -> Status
 }
 
 // The program that the bytes are; or the status of their first fault, or that memory ran out.
-fn program_of(alloc: Global, bytes: &[u8]) -> Result<Program, Status>
+pub(crate) fn program_of(alloc: Global, bytes: &[u8]) -> Result<Program, Status>
     requires { length bytes.now ≤ most_input_bytes }
     ensures read { MatchResult result (λ program. program_of bytes.now ≡ Ok program) (λ status. RefusesBytes status bytes.now ⊎ (status ≡ Status.Memory)) }
     ensures valid { IfOk result Valid }

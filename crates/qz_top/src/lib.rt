@@ -1,7 +1,9 @@
 //! The commands of quartz: from a list of words and an input to a status and what is written.
 #![tactic(auto)]
 
+mod check;
 mod cost_table;
+mod files;
 mod generate;
 mod inputs;
 mod optimise;

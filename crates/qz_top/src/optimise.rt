@@ -7,14 +7,16 @@ ghost use Rattle.qz_circ.specs.declared.fault.RuleFault.{RuleFault};
 ghost use Rattle.qz_circ.specs.ValidPrograms.{Valid};
 ghost use Rattle.qz_io.specs.Told.{TakesBytes};
 ghost use Rattle.qz_io.specs.Transfers.{source_shown};
-ghost use Rattle.qz_top.specs.Answer.{Storage, shelf_shown, shown, IsCarriedOut};
+ghost use Rattle.qz_top.specs.Answer.{shelf_shown, shown, IsCarriedOut};
 ghost use Rattle.qz_top.specs.Inputs.{most_input_bytes};
-ghost use Rattle.qz_top.specs.Making.{EndsEarly, EndsUnread, IsOpened, AreRulesRead, HasRules, IsMadeOfInput, EndsByInput};
-ghost use Rattle.qz_top.specs.Optimise.{most_rule_bytes, status_of_rule_fault, status_of_unread_file, status_of_opening, Optimises, TellsFile, TakesRuleFile, TakesFileForRules};
+ghost use Rattle.qz_top.specs.Making.{EndsEarly, EndsUnread, AreRulesRead, HasRules, IsMadeOfInput, EndsByInput};
+ghost use Rattle.qz_top.specs.Files.{TellsFile, TakesFile, TakesFileFor};
+ghost use Rattle.qz_top.specs.Optimise.{rule_file, status_of_rule_fault, Optimises};
 ghost use Rattle.qz_top.specs.Optimised.{IsFound, IsOptimised, IsOptimisedBy, WritesOptimised};
 ghost use Rattle.qz_top.specs.Status.{IsBeforeInput, WritesNothing};
 ghost use Rattle.qz_top.specs.Words.{AreWorkers};
 
+use crate::files::{FileLimit, file_in};
 use crate::inputs::program_in;
 use crate::status::Status;
 use crate::words::limit_of;
@@ -22,15 +24,12 @@ use crate::writing::{text_of, write_text};
 use qz_circ::{Inst, Memory, Program, RuleFault, Which};
 use qz_crew::Turnstile;
 use qz_hunt::hunt;
-use qz_io::{IoFault, Shelf, Sink, Source, Unread, read_file};
+use qz_io::{Shelf, Sink, Source};
 use qz_rulefile::{Rules, read};
 use qz_search::{Plan, search};
 use std::alloc::Global;
 use std::sync::Wait;
 use std::thread::Threads;
-
-// How many bytes a rule file has at most.
-const LIMIT: u64 = 134_217_728;
 
 // The status of a fault of a rule file. Want of memory has a status of its own.
 fn status_of_rule_fault(fault: RuleFault) -> Status
@@ -44,27 +43,6 @@ fn status_of_rule_fault(fault: RuleFault) -> Status
     }
 }
 
-// The status where a rule file isn't read whole.
-fn status_of_unread_file(unread: Unread) -> Status
-    ensures { result ≡ status_of_unread_file unread }
-{
-    match unread {
-        Unread::TooLong => Status::Limit(Which::RuleBytes),
-        Unread::Failed => Status::ShelfFault,
-        Unread::Memory => Status::Memory,
-    }
-}
-
-// The status where a rule file isn't opened.
-fn status_of_opening(fault: IoFault) -> Status
-    ensures { result ≡ status_of_opening fault }
-{
-    match fault {
-        IoFault::Failed => Status::ShelfFault,
-        IoFault::Memory => Status::Memory,
-    }
-}
-
 // The rules that the bytes of a file say; or the status of their first fault, or that memory ran out.
 fn rules_of(alloc: Global, bytes: &[u8]) -> Result<Rules, Status>
     ensures { MatchResult result (λ rules. Reads bytes.now (Ok rules)) (λ status. ((e : RuleFault) × Reads bytes.now (Err e) × (status ≡ status_of_rule_fault e)) ⊎ (status ≡ Status.Memory)) }
@@ -75,39 +53,23 @@ fn rules_of(alloc: Global, bytes: &[u8]) -> Result<Rules, Status>
     }
 }
 
-// Reads the rules in the open file; or gives the status that the command ends with before it has them.
-fn rules_in_open_file<F: Shelf>(alloc: Global, shelf: &mut F) -> Result<Rules, Status>
-    requires { IsTrue (F.is_open shelf.old) }
-    // Whatever name it was opened by, and whatever the plan is.
-    ensures made { (name : List ℕ) (plan : PlanNumbers) (opened : Storage) → IsOpened name (F.rest shelf.old) opened → opened.faults_after ≡ F.faults shelf.old → opened.answers_faults ≡ F.answers_faults →
-        let after = record opened { faults_after = F.faults shelf.new; answers_faults = F.answers_faults } in
-        MatchResult result (λ rules. AreRulesRead name rules after) (λ status. EndsUnread (Optimises name plan) status after) }
-    ensures at_end { OnOk result (IsAtEnd (F.rest shelf.new)) }
-    ensures taken { TakesBytes (F.rest shelf.old) (F.rest shelf.new) (λ n. n ≤ most_rule_bytes + 1) }
-    ensures within { result ≢ Err (Status.Limit Which.RuleBytes) → TakesBytes (F.rest shelf.old) (F.rest shelf.new) (λ n. n ≤ most_rule_bytes) }
-    ensures files { F.files shelf.new ≡ F.files shelf.old }
-    ensures faults { F.faults shelf.old ≤ F.faults shelf.new }
-{
-    match read_file(alloc, shelf, LIMIT) {
-        Ok(bytes) => rules_of(alloc, &bytes),
-        Err(unread) => Err(status_of_unread_file(unread)),
-    }
-}
-
 // Reads the rules in the file with this name; or gives the status that the command ends with before it has them.
 fn rules_in<F: Shelf>(alloc: Global, name: &str, shelf: &mut F) -> Result<Rules, Status>
     // Whatever the plan is.
     ensures made { (plan : PlanNumbers) → let storage = shelf_shown F.Shelf shelf.old shelf.new in
         MatchResult result (λ rules. AreRulesRead name.now rules storage) (λ status. EndsUnread (Optimises name.now plan) status storage) }
     ensures file_at_end { OnOk result (IsAtEnd (F.rest shelf.new)) }
-    ensures file_taken { (file : List ℕ) → TellsFile (F.files shelf.old) name.now file → TakesFileForRules file (F.rest shelf.old) (F.rest shelf.new) result }
+    ensures file_taken { (file : List ℕ) → TellsFile (F.files shelf.old) name.now file → TakesFileFor rule_file file (F.rest shelf.old) (F.rest shelf.new) result }
     ensures files { F.files shelf.new ≡ F.files shelf.old }
     ensures faults { F.faults shelf.old ≤ F.faults shelf.new }
 {
-    match shelf.open(name) {
-        Ok(true) => rules_in_open_file(alloc, shelf),
-        Ok(false) => Err(Status::NoFile),
-        Err(fault) => Err(status_of_opening(fault)),
+    let limit = FileLimit {
+        most: 134_217_728,
+        which: Which::RuleBytes,
+    };
+    match file_in(alloc, name, limit, shelf) {
+        Ok(bytes) => rules_of(alloc, &bytes),
+        Err(status) => Err(status),
     }
 }
 
@@ -209,7 +171,7 @@ fn optimised_by<
     ensures before { IfErr result (λ status. IsBeforeInput status → input.new ≡ input.old) }
     ensures read_fault { result ≡ Err Status.ReadFault → HasRules name.now (shelf_shown F.Shelf shelf.old shelf.new) }
     ensures file_at_end { OnOk result (IsAtEnd (F.rest shelf.new)) }
-    ensures file_taken { (file : List ℕ) → TellsFile (F.files shelf.old) name.now file → TakesFileForRules file (F.rest shelf.old) (F.rest shelf.new) result }
+    ensures file_taken { (file : List ℕ) → TellsFile (F.files shelf.old) name.now file → TakesFileFor rule_file file (F.rest shelf.old) (F.rest shelf.new) result }
     ensures files { F.files shelf.new ≡ F.files shelf.old }
     ensures input_faults { I.faults input.old ≤ I.faults input.new }
     ensures shelf_faults { F.faults shelf.old ≤ F.faults shelf.new }
@@ -250,7 +212,7 @@ pub(crate) fn optimise<
     ensures read_fault { result ≡ Status.ReadFault → HasRules name.now (shelf_shown F.Shelf shelf.old shelf.new) }
     ensures untouched { WritesNothing result → out.new ≡ out.old }
     ensures file_at_end { result ≡ Status.Ok → IsAtEnd (F.rest shelf.new) }
-    ensures file_taken { (file : List ℕ) → TellsFile (F.files shelf.old) name.now file → TakesRuleFile file (F.rest shelf.old) (F.rest shelf.new) result }
+    ensures file_taken { (file : List ℕ) → TellsFile (F.files shelf.old) name.now file → TakesFile rule_file file (F.rest shelf.old) (F.rest shelf.new) result }
     ensures files { F.files shelf.new ≡ F.files shelf.old }
     ensures input_faults { I.faults input.old ≤ I.faults input.new }
     ensures shelf_faults { F.faults shelf.old ≤ F.faults shelf.new }

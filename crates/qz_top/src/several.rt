@@ -9,14 +9,14 @@ ghost use Rattle.qz_io.specs.Counts.{Rose};
 ghost use Rattle.qz_io.specs.Told.{TakesBytes};
 ghost use Rattle.qz_top.specs.Answer.{Answer, Given, shelf_shown, shown, IsCarriedOut};
 ghost use Rattle.qz_top.specs.FaultTexts.{status_text};
+ghost use Rattle.qz_top.specs.Files.{TellsFile, TakesFile};
 ghost use Rattle.qz_top.specs.Generate.{AreMade, WritesCompleteRules};
 ghost use Rattle.qz_top.specs.Inputs.{most_input_bytes};
-ghost use Rattle.qz_top.specs.Optimise.{TellsFile, TakesRuleFile};
 ghost use Rattle.qz_top.specs.Optimised.{IsFound, WritesOptimised};
 ghost use Rattle.qz_top.specs.Reports.{IsReportText, end_text};
-ghost use Rattle.qz_top.specs.Run.{status_of_words, CommandAnswers, WordsAnswer, CommandNeedsProgram, NeedsProgram, IsOfProgram, AsksOfProgram, IsForErr, Tells};
+ghost use Rattle.qz_top.specs.Run.{status_of_words, NamedFile, file_asked, CommandAnswers, WordsAnswer, CommandNeedsProgram, NeedsProgram, IsOfProgram, AsksOfProgram, IsForErr, Tells};
 ghost use Rattle.qz_top.specs.Status.{IsBeforeInput, WritesNothing};
-ghost use Rattle.qz_top.specs.Words.{AreWorkers, IsLawfulCommand, workers_for, command_of};
+ghost use Rattle.qz_top.specs.Words.{AreWorkers, IsLawfulCommand, IsWithinWords, workers_for, command_of};
 
 use crate::generate::rules_by;
 use crate::optimise::found_by;
@@ -40,7 +40,7 @@ fn workers_for(command: &Command) -> u64
     match command {
         Command::Generate { workers, .. } => *workers,
         Command::Optimise { workers, .. } => *workers,
-        Command::Tidy | Command::Trial { .. } => 1,
+        Command::Tidy | Command::Trial { .. } | Command::Check { .. } => 1,
     }
 }
 
@@ -49,7 +49,7 @@ fn command_of_several(words: &[String]) -> Option<Command>
     ensures command { IfSome result (λ command. Ok command ≡ command_of (map string_bytes words.now)) }
     ensures several { IfSome result (λ command. 1 < workers_for command) }
     ensures lawful { IfSome result IsLawfulCommand }
-    ensures within { (k : ℕ) (plan : PlanNumbers) (workers : ℕ) → result ≡ Some (Command.Optimise k plan workers) → k < length words.now }
+    ensures within { IfSome result (IsWithinWords (length words.now)) }
     ensures none { (command : Command) → result ≡ None → command_of (map string_bytes words.now) ≡ Ok command → workers_for command ≤ 1 }
 {
     match read_words(words) {
@@ -104,16 +104,16 @@ pub fn run<I: Source, F: Shelf, O: Sink, E: Sink, T: Turnstile, R: Threads + Wai
     ensures at_end { AsksOfProgram (map string_bytes words.now) → result ≡ Status.Ok → IsAtEnd (I.left input.new) }
     ensures read_fault { result ≡ Status.ReadFault → NeedsProgram (map string_bytes words.now) (shelf_shown F.Shelf shelf.old shelf.new) }
 
-    // Only `optimise` opens a file of the shelf. No command changes the files.
-    ensures unopened { ((k : ℕ) (plan : PlanNumbers) (workers : ℕ) → command_of (map string_bytes words.now) ≢ Ok (Command.Optimise k plan workers)) → shelf.new ≡ shelf.old }
-    ensures shelf_fault { result ≡ Status.ShelfFault → (k : ℕ) × (plan : PlanNumbers) × (workers : ℕ) × (command_of (map string_bytes words.now) ≡ Ok (Command.Optimise k plan workers)) }
+    // Only `optimise` and `check` open a file of the shelf, the one that the words name. No command changes the files.
+    ensures unopened { file_asked (map string_bytes words.now) ≡ None → shelf.new ≡ shelf.old }
+    ensures shelf_fault { result ≡ Status.ShelfFault → file_asked (map string_bytes words.now) ≢ None }
     ensures files { F.files shelf.new ≡ F.files shelf.old }
 
-    // The file that `optimise` opens is read at most to one byte past its limit, which is then told, and to its end where the
+    // The file that a command opens is read at most to one byte past its limit, which is then told, and to its end where the
     // command is done. So a fault of the shelf comes at the opening or before that byte.
-    ensures file_taken { (k : ℕ) (plan : PlanNumbers) (workers : ℕ) (file : List ℕ) → command_of (map string_bytes words.now) ≡ Ok (Command.Optimise k plan workers)
-        → TellsFile (F.files shelf.old) (slice_index_or (map string_bytes words.now) k []) file → TakesRuleFile file (F.rest shelf.old) (F.rest shelf.new) result }
-    ensures file_at_end { (k : ℕ) (plan : PlanNumbers) (workers : ℕ) → command_of (map string_bytes words.now) ≡ Ok (Command.Optimise k plan workers) → result ≡ Status.Ok → IsAtEnd (F.rest shelf.new) }
+    ensures file_taken { (named : NamedFile) (file : List ℕ) → file_asked (map string_bytes words.now) ≡ Some named
+        → TellsFile (F.files shelf.old) (slice_index_or (map string_bytes words.now) named.word []) file → TakesFile named.limit file (F.rest shelf.old) (F.rest shelf.new) result }
+    ensures file_at_end { file_asked (map string_bytes words.now) ≢ None → result ≡ Status.Ok → IsAtEnd (F.rest shelf.new) }
 
     ensures input_faults { I.faults input.old ≤ I.faults input.new }
     ensures shelf_faults { F.faults shelf.old ≤ F.faults shelf.new }

@@ -1,5 +1,5 @@
 //! A command with one worker, from its words to what it writes.
-ghost use Rattle.std.specs.Prelude.{◌≡◌, ◌≢◌, ℕ, Bool, true, ◌+◌, ◌<◌, ◌≤◌, ◌⊎◌, List, [], length, map, slice_index_or, string_bytes, IfOk};
+ghost use Rattle.std.specs.Prelude.{◌≡◌, ◌≢◌, ℕ, Bool, true, ◌+◌, ◌≤◌, ◌⊎◌, List, [], length, map, slice_index_or, string_bytes, Some, None, IfOk};
 ghost use Rattle.std.specs.Io.KnownBytes.{IsAtEnd};
 ghost use Rattle.qz_circ.specs.Circuit.{Limits};
 ghost use Rattle.qz_circ.specs.declared.fault.Which.TheVariants.{InputBytes};
@@ -9,15 +9,16 @@ ghost use Rattle.qz_io.specs.Counts.{Rose};
 ghost use Rattle.qz_io.specs.Told.{TakesBytes};
 ghost use Rattle.qz_top.specs.Answer.{Answer, Given, shelf_shown, shown, IsCarriedOut};
 ghost use Rattle.qz_top.specs.FaultTexts.{status_text};
+ghost use Rattle.qz_top.specs.Files.{TellsFile, TakesFile};
 ghost use Rattle.qz_top.specs.Generate.{AreMade, WritesCompleteRules};
 ghost use Rattle.qz_top.specs.Inputs.{most_input_bytes};
-ghost use Rattle.qz_top.specs.Optimise.{TellsFile, TakesRuleFile};
 ghost use Rattle.qz_top.specs.Optimised.{IsFound, WritesOptimised};
 ghost use Rattle.qz_top.specs.Reports.{IsReportText, end_text};
-ghost use Rattle.qz_top.specs.Run.{status_of_words, CommandAnswers, WordsAnswer, CommandNeedsProgram, NeedsProgram, IsOfProgram, AsksOfProgram, IsForErr, Tells};
+ghost use Rattle.qz_top.specs.Run.{status_of_words, NamedFile, file_of, file_asked, CommandAnswers, WordsAnswer, CommandNeedsProgram, NeedsProgram, IsOfProgram, AsksOfProgram, IsForErr, Tells};
 ghost use Rattle.qz_top.specs.Status.{IsBeforeInput, WritesNothing};
-ghost use Rattle.qz_top.specs.Words.{IsLawfulCommand, command_of};
+ghost use Rattle.qz_top.specs.Words.{IsLawfulCommand, IsWithinWords, command_of};
 
+use crate::check::check;
 use crate::generate::{rules_of, written};
 use crate::optimise::{found, optimise};
 use crate::status::Status;
@@ -62,7 +63,7 @@ pub(crate) fn carry_out<
     requires makes { (b : Limits) (workers seed : ℕ) (report : Bool) → command ≡ Command.Generate b workers seed report → G.pre make b seed × ((made : _) → G.post make b seed made → IfOk made (λ m. AreMade b seed m.0.items m.1)) }
     requires ready { (k : ℕ) (plan : PlanNumbers) (workers : ℕ) → command ≡ Command.Optimise k plan workers → (r p : _) → Valid p.now → S.pre find r plan p }
     requires finds { (k : ℕ) (plan : PlanNumbers) (workers : ℕ) → command ≡ Command.Optimise k plan workers → (r p circuit : _) → S.post find r plan p circuit → IfOk circuit (λ c. IsFound r.now plan p.now c.items) }
-    requires within { (k : ℕ) (plan : PlanNumbers) (workers : ℕ) → command ≡ Command.Optimise k plan workers → k < length words.now }
+    requires within { IsWithinWords (length words.now) command }
     requires lawful { IsLawfulCommand command }
     ensures carried_out { IsCarriedOut (CommandAnswers (map string_bytes words.now) command) result.0
         (shown I.Source F.Shelf O.Sink input.old input.new shelf.old shelf.new out.old out.new) }
@@ -76,11 +77,11 @@ pub(crate) fn carry_out<
     ensures unread { (input.new ≡ input.old) ⊎ CommandNeedsProgram (map string_bytes words.now) command (shelf_shown F.Shelf shelf.old shelf.new) }
     ensures before { IsBeforeInput result.0 → input.new ≡ input.old }
     ensures untouched { WritesNothing result.0 → out.new ≡ out.old }
-    ensures shelf_fault { result.0 ≡ Status.ShelfFault → (k : ℕ) × (plan : PlanNumbers) × (workers : ℕ) × (command ≡ Command.Optimise k plan workers) }
-    ensures unopened { ((k : ℕ) (plan : PlanNumbers) (workers : ℕ) → command ≢ Command.Optimise k plan workers) → shelf.new ≡ shelf.old }
-    ensures file_taken { (k : ℕ) (plan : PlanNumbers) (workers : ℕ) (file : List ℕ) → command ≡ Command.Optimise k plan workers → TellsFile (F.files shelf.old) (slice_index_or (map string_bytes words.now) k []) file
-        → TakesRuleFile file (F.rest shelf.old) (F.rest shelf.new) result.0 }
-    ensures file_at_end { (k : ℕ) (plan : PlanNumbers) (workers : ℕ) → command ≡ Command.Optimise k plan workers → result.0 ≡ Status.Ok → IsAtEnd (F.rest shelf.new) }
+    ensures shelf_fault { result.0 ≡ Status.ShelfFault → file_of command ≢ None }
+    ensures unopened { file_of command ≡ None → shelf.new ≡ shelf.old }
+    ensures file_taken { (named : NamedFile) (file : List ℕ) → file_of command ≡ Some named → TellsFile (F.files shelf.old) (slice_index_or (map string_bytes words.now) named.word []) file
+        → TakesFile named.limit file (F.rest shelf.old) (F.rest shelf.new) result.0 }
+    ensures file_at_end { file_of command ≢ None → result.0 ≡ Status.Ok → IsAtEnd (F.rest shelf.new) }
     ensures files { F.files shelf.new ≡ F.files shelf.old }
     ensures input_faults { I.faults input.old ≤ I.faults input.new }
     ensures shelf_faults { F.faults shelf.old ≤ F.faults shelf.new }
@@ -108,6 +109,10 @@ pub(crate) fn carry_out<
             qubits,
             gates,
         } => (trial(alloc, seed, qubits, gates, out), None),
+        Command::Check { other } => {
+            let status = check(alloc, word(words, other), input, shelf, out);
+            (status, None)
+        }
     }
 }
 
@@ -148,16 +153,16 @@ pub fn run_solo<I: Source, F: Shelf, O: Sink, E: Sink>(
     ensures at_end { AsksOfProgram (map string_bytes words.now) → result ≡ Status.Ok → IsAtEnd (I.left input.new) }
     ensures read_fault { result ≡ Status.ReadFault → NeedsProgram (map string_bytes words.now) (shelf_shown F.Shelf shelf.old shelf.new) }
 
-    // Only `optimise` opens a file of the shelf. No command changes the files.
-    ensures unopened { ((k : ℕ) (plan : PlanNumbers) (workers : ℕ) → command_of (map string_bytes words.now) ≢ Ok (Command.Optimise k plan workers)) → shelf.new ≡ shelf.old }
-    ensures shelf_fault { result ≡ Status.ShelfFault → (k : ℕ) × (plan : PlanNumbers) × (workers : ℕ) × (command_of (map string_bytes words.now) ≡ Ok (Command.Optimise k plan workers)) }
+    // Only `optimise` and `check` open a file of the shelf, the one that the words name. No command changes the files.
+    ensures unopened { file_asked (map string_bytes words.now) ≡ None → shelf.new ≡ shelf.old }
+    ensures shelf_fault { result ≡ Status.ShelfFault → file_asked (map string_bytes words.now) ≢ None }
     ensures files { F.files shelf.new ≡ F.files shelf.old }
 
-    // The file that `optimise` opens is read at most to one byte past its limit, which is then told, and to its end where the
+    // The file that a command opens is read at most to one byte past its limit, which is then told, and to its end where the
     // command is done. So a fault of the shelf comes at the opening or before that byte.
-    ensures file_taken { (k : ℕ) (plan : PlanNumbers) (workers : ℕ) (file : List ℕ) → command_of (map string_bytes words.now) ≡ Ok (Command.Optimise k plan workers)
-        → TellsFile (F.files shelf.old) (slice_index_or (map string_bytes words.now) k []) file → TakesRuleFile file (F.rest shelf.old) (F.rest shelf.new) result }
-    ensures file_at_end { (k : ℕ) (plan : PlanNumbers) (workers : ℕ) → command_of (map string_bytes words.now) ≡ Ok (Command.Optimise k plan workers) → result ≡ Status.Ok → IsAtEnd (F.rest shelf.new) }
+    ensures file_taken { (named : NamedFile) (file : List ℕ) → file_asked (map string_bytes words.now) ≡ Some named
+        → TellsFile (F.files shelf.old) (slice_index_or (map string_bytes words.now) named.word []) file → TakesFile named.limit file (F.rest shelf.old) (F.rest shelf.new) result }
+    ensures file_at_end { file_asked (map string_bytes words.now) ≢ None → result ≡ Status.Ok → IsAtEnd (F.rest shelf.new) }
 
     ensures input_faults { I.faults input.old ≤ I.faults input.new }
     ensures shelf_faults { F.faults shelf.old ≤ F.faults shelf.new }

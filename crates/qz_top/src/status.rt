@@ -12,7 +12,7 @@ pub enum Status {
     Memory,
     /// The words are in no written form.
     Usage,
-    /// A number, the rule file, the input or its program passes this limit.
+    /// A number, the file that the words name, the input or a program passes this limit.
     Limit(Which),
     /// The input is no program: its first fault, which is neither a limit nor want of memory.
     Qasm(QasmFault),
@@ -21,14 +21,18 @@ pub enum Status {
     /// In the rule file this member, the first such one, isn't equivalent to the first member of its class. Both are counted
     /// from 1.
     Unsound { class: u64, member: u64 },
-    /// There is no file with the rule file's name.
+    /// There is no file with the name that the words give.
     NoFile,
     /// Reading the input failed.
     ReadFault,
     /// Writing failed.
     WriteFault,
-    /// Opening or reading the rule file failed.
+    /// Opening or reading the file that the words name failed.
     ShelfFault,
+    /// The programs that are to be compared have different numbers of qubits: the input's and that of the file.
+    Shapes { input: u64, file: u64 },
+    /// The file that is compared with the input is no program: its first fault, which is neither a limit nor want of memory.
+    FileQasm(QasmFault),
 }
 
 impl Status {
@@ -50,6 +54,8 @@ impl Status {
             Status::ReadFault => 8,
             Status::WriteFault => 9,
             Status::ShelfFault => 10,
+            Status::Shapes { .. } => 16,
+            Status::FileQasm(_) => 17,
         }
     }
 }

@@ -1,7 +1,7 @@
 //! The texts that go to the error stream, each of which goes there by one write.
 ghost use Rattle.std.specs.Prelude.{◌≡◌, ◌≤◌, ◌⊎◌, [], None, length};
 ghost use Rattle.qz_io.specs.Counts.{Rose};
-ghost use Rattle.qz_top.specs.FaultTexts.{which_name, lex_kind, angle_kind, fault_kind, lex_place, angle_place, fault_place, status_text};
+ghost use Rattle.qz_top.specs.FaultTexts.{which_name, lex_kind, angle_kind, fault_kind, lex_place, angle_place, fault_place, program_text, status_text};
 ghost use Rattle.qz_top.specs.Reports.{report_text, end_text};
 ghost use Rattle.qz_top.specs.Run.{Tells};
 
@@ -36,6 +36,10 @@ fn which_name(which: Which) -> &'static str
         Which::ProgramGates => "program-gates",
         Which::TrialQubits => "trial-qubits",
         Which::TrialGates => "trial-gates",
+        Which::FileBytes => "file-bytes",
+        Which::CheckQubits => "check-qubits",
+        Which::CheckHalves => "check-halves",
+        Which::CheckGates => "check-gates",
     }
 }
 
@@ -134,6 +138,16 @@ fn fault_place(fault: QasmFault) -> u64
     }
 }
 
+// The text of a fault of a program, behind a few words that say whose.
+fn program_text(whose: &str, fault: QasmFault) -> ShortText
+    requires { length whose.now ≤ 20 }
+    ensures { result.bytes ≡ program_text whose.now fault }
+{
+    let kind = Text(fault_kind(fault));
+    let place = Number(fault_place(fault));
+    joined(&[Text(whose), kind, Text(" at "), place, Text("\n")])
+}
+
 // The text of a status.
 fn status_text(status: Status) -> ShortText
     ensures { result.bytes ≡ status_text status }
@@ -144,10 +158,11 @@ fn status_text(status: Status) -> ShortText
         Status::Memory => joined(&[Text("out of memory"), end]),
         Status::Usage => joined(&[Text("usage: quartz COMMAND [words]"), end]),
         Status::Limit(which) => joined(&[Text("limit: "), Text(which_name(which)), end]),
-        Status::Qasm(fault) => {
-            let kind = Text(fault_kind(fault));
-            let place = Number(fault_place(fault));
-            joined(&[Text("program: "), kind, Text(" at "), place, end])
+        Status::Qasm(fault) => program_text("program: ", fault),
+        Status::FileQasm(fault) => program_text("file: ", fault),
+        Status::Shapes { input, file } => {
+            let (input, file) = (Number(input), Number(file));
+            joined(&[Text("check: "), input, Text(" and "), file, Text(" qubits"), end])
         }
         Status::RuleSyntax { place } => joined(&[Text("rules: Syntax at "), Number(place), end]),
         Status::Unsound { class, member } => {

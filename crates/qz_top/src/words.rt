@@ -1,10 +1,9 @@
 //! The words of a command: what they ask for, and why they are refused.
-ghost use Rattle.std.specs.Prelude.{◌≡◌, ◌<◌, ◌≤◌, ℕ, [], length, drop, map, slice_index_or, string_bytes, Some, None, Ok, IfSome, IfOk, MatchResult};
+ghost use Rattle.std.specs.Prelude.{◌≡◌, ◌<◌, ◌≤◌, ℕ, [], length, drop, map, slice_index_or, string_bytes, Some, None, IfSome, IfOk, MatchResult};
 ghost use Rattle.std.specs.Option.{option_map};
-ghost use Rattle.qz_circ.specs.Search.{PlanNumbers};
 ghost use Rattle.qz_search.specs.PlanFaults.{plan_refusal};
 ghost use Rattle.qz_top.specs.Words.{number_of, option_named, has_option, option_of, takes_value, no_options, IsFileWithin, new_number, new_file, new_table, with_value, without_value, options_from, workers_of, seed_of, grain_of, plan_of};
-ghost use Rattle.qz_top.specs.Words.{which_of, which_of_plan, workers_limit, trial_limit, AreWorkers, IsTrialSize, IsLawfulCommand, unless_passed, generation, optimisation, trial, limits_of, generation_asked, optimisation_asked, tidying_asked, trial_asked, command_by, command_of};
+ghost use Rattle.qz_top.specs.Words.{which_of, which_of_plan, workers_limit, trial_limit, AreWorkers, IsTrialSize, IsLawfulCommand, IsWithinWords, unless_passed, generation, optimisation, trial, limits_of, generation_asked, optimisation_asked, tidying_asked, trial_asked, check_asked, command_by, command_of};
 
 use crate::cost_table::{CostTable, cost_table, weights_of};
 use qz_circ::{Bounds, LimitFault, MOST_GATES, MOST_QUBITS, Which};
@@ -41,6 +40,11 @@ pub enum Command {
         qubits: u64,
         /// At most 20,000.
         gates: u64,
+    },
+    /// To tell whether the program that the input is and the one in a file are equivalent.
+    Check {
+        /// The number of the word that names the file, counted from 0 and below the number of words.
+        other: usize,
     },
 }
 
@@ -416,6 +420,7 @@ fn trial_limit(qubits: u64, gates: u64) -> Option<Which>
 fn unless_passed(limit: Option<Which>, command: Command) -> Result<Command, WordFault>
     ensures command { result ≡ unless_passed limit command }
     ensures lawful { (limit ≡ None → IsLawfulCommand command) → IfOk result IsLawfulCommand }
+    ensures within { (most : ℕ) → IsWithinWords most command → IfOk result (IsWithinWords most) }
 {
     match limit {
         None => Ok(command),
@@ -429,6 +434,7 @@ fn unless_passed(limit: Option<Which>, command: Command) -> Result<Command, Word
 fn generation(n: u64, q: u64, m: u64, given: Options) -> Result<Command, WordFault>
     ensures command { result ≡ generation (record { n = n; q = q; m = m; grain = grain_of given }) given }
     ensures lawful { IfOk result IsLawfulCommand }
+    ensures within { (most : ℕ) → IfOk result (IsWithinWords most) }
 {
     match Bounds::with_grain(n, q, m, given.grain()) {
         Ok(bounds) => unless_passed(
@@ -448,6 +454,7 @@ fn generation(n: u64, q: u64, m: u64, given: Options) -> Result<Command, WordFau
 fn optimisation(rules: usize, given: Options) -> Result<Command, WordFault>
     ensures command { result ≡ optimisation rules given }
     ensures lawful { IfOk result IsLawfulCommand }
+    ensures within { (most : ℕ) → rules < most → IfOk result (IsWithinWords most) }
 {
     match given.plan() {
         Ok(plan) => unless_passed(
@@ -466,6 +473,7 @@ fn optimisation(rules: usize, given: Options) -> Result<Command, WordFault>
 fn trial(seed: u64, qubits: u64, gates: u64) -> Result<Command, WordFault>
     ensures command { result ≡ trial seed qubits gates }
     ensures lawful { IfOk result IsLawfulCommand }
+    ensures within { (most : ℕ) → IfOk result (IsWithinWords most) }
 {
     unless_passed(
         trial_limit(qubits, gates),
@@ -489,6 +497,7 @@ fn three_numbers(n: &str, q: &str, m: &str) -> Option<(u64, u64, u64)>
 fn generation_asked(words: &[String]) -> Result<Command, WordFault>
     ensures command { result ≡ generation_asked (map string_bytes words.now) }
     ensures lawful { IfOk result IsLawfulCommand }
+    ensures within { IfOk result (IsWithinWords (length words.now)) }
 {
     let [_, n, q, m, ..] = words else {
         return Err(WordFault::Usage);
@@ -507,7 +516,7 @@ fn generation_asked(words: &[String]) -> Result<Command, WordFault>
 fn optimisation_asked(words: &[String]) -> Result<Command, WordFault>
     ensures command { result ≡ optimisation_asked (map string_bytes words.now) }
     ensures lawful { IfOk result IsLawfulCommand }
-    ensures within { (k : ℕ) (plan : PlanNumbers) (workers : ℕ) → result ≡ Ok (Command.Optimise k plan workers) → k < length words.now }
+    ensures within { IfOk result (IsWithinWords (length words.now)) }
 {
     if words.is_empty() {
         return Err(WordFault::Usage);
@@ -526,6 +535,7 @@ fn optimisation_asked(words: &[String]) -> Result<Command, WordFault>
 fn tidying_asked(words: &[String]) -> Result<Command, WordFault>
     ensures command { result ≡ tidying_asked (map string_bytes words.now) }
     ensures lawful { IfOk result IsLawfulCommand }
+    ensures within { IfOk result (IsWithinWords (length words.now)) }
 {
     match words {
         [_] => Ok(Command::Tidy),
@@ -538,6 +548,7 @@ fn tidying_asked(words: &[String]) -> Result<Command, WordFault>
 fn trial_asked(words: &[String]) -> Result<Command, WordFault>
     ensures command { result ≡ trial_asked (map string_bytes words.now) }
     ensures lawful { IfOk result IsLawfulCommand }
+    ensures within { IfOk result (IsWithinWords (length words.now)) }
 {
     let [_, seed, qubits, gates] = words else {
         return Err(WordFault::Usage);
@@ -554,18 +565,38 @@ fn trial_asked(words: &[String]) -> Result<Command, WordFault>
     trial(seed, qubits, gates)
 }
 
+// The check that the words ask for.
+#[tactic(auto, unfolding(crate::specs::Words::check_asked))]
+fn check_asked(words: &[String]) -> Result<Command, WordFault>
+    ensures command { result ≡ check_asked (map string_bytes words.now) }
+    ensures lawful { IfOk result IsLawfulCommand }
+    ensures within { IfOk result (IsWithinWords (length words.now)) }
+{
+    let [_, option, file] = words else {
+        return Err(WordFault::Usage);
+    };
+    if option.as_str() != "--with" {
+        return Err(WordFault::Usage);
+    }
+    if file.is_empty() {
+        return Err(WordFault::Usage);
+    }
+    Ok(Command::Check { other: 2 })
+}
+
 // What the words ask for, of which this is the first one.
 #[tactic(auto, unfolding(crate::specs::Words::command_by))]
 fn command_by(first: &str, words: &[String]) -> Result<Command, WordFault>
     ensures command { result ≡ command_by first.now (map string_bytes words.now) }
     ensures lawful { IfOk result IsLawfulCommand }
-    ensures within { (k : ℕ) (plan : PlanNumbers) (workers : ℕ) → result ≡ Ok (Command.Optimise k plan workers) → k < length words.now }
+    ensures within { IfOk result (IsWithinWords (length words.now)) }
 {
     match first {
         "generate" => generation_asked(words),
         "optimise" => optimisation_asked(words),
         "tidy" => tidying_asked(words),
         "trial" => trial_asked(words),
+        "check" => check_asked(words),
         _ => Err(WordFault::Usage),
     }
 }
@@ -575,7 +606,7 @@ fn command_by(first: &str, words: &[String]) -> Result<Command, WordFault>
 pub fn read_words(words: &[String]) -> Result<Command, WordFault>
     ensures command { result ≡ command_of (map string_bytes words.now) }
     ensures lawful { IfOk result IsLawfulCommand }
-    ensures within { (k : ℕ) (plan : PlanNumbers) (workers : ℕ) → result ≡ Ok (Command.Optimise k plan workers) → k < length words.now }
+    ensures within { IfOk result (IsWithinWords (length words.now)) }
 {
     match words {
         [] => Err(WordFault::Usage),

@@ -1,9 +1,10 @@
 use Rattle.std.proofs.Common.{◌∙◌, refl, subst, sym, ap, Err}
 use Rattle.std.specs.Io.KnownBytes.{append_known}
-use Rattle.qz_top.specs.Optimise.{Optimises}
+use Rattle.qz_top.specs.Optimise.{rule_file, Optimises}
 use Rattle.qz_top.specs.Status.{WritesNothing}
 use Rattle.qz_top.proofs.AnswerLemmas.{before_writes_nothing, carried_by_text}
-use Rattle.qz_top.proofs.OptimiseLemmas.{optimised_written, taken_late}
+use Rattle.qz_top.proofs.FileLemmas.{taken_late}
+use Rattle.qz_top.proofs.OptimiseLemmas.{optimised_written}
 use Rattle.qz_top.proofs.optimise.optimise.Goals as goal
 
 pub returns-in-Ok-clause-carried_out : goal.returns-in-Ok-clause-carried_out
@@ -37,7 +38,7 @@ pub returns-in-Err-clause-read_fault : goal.returns-in-Err-clause-read_fault
 returns-in-Err-clause-read_fault g c = λ e. c.in-Err.ensures.read_fault (ap Err e)
 
 pub returns-in-Ok-clause-file_taken : goal.returns-in-Ok-clause-file_taken
-returns-in-Ok-clause-file_taken g c = λ file tells. taken_late file _ _ c.write_text.result (c.in-Ok.ensures.file_taken file tells)
+returns-in-Ok-clause-file_taken g c = λ file tells. taken_late rule_file file _ _ c.write_text.result (c.in-Ok.ensures.file_taken file tells)
 
 pub returns-in-Err-clause-file_at_end : goal.returns-in-Err-clause-file_at_end
 returns-in-Err-clause-file_at_end g c = λ e. absurd (c.in-Err.ensures.made.not_done e)

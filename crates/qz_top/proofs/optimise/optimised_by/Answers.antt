@@ -1,6 +1,8 @@
 use Rattle.std.proofs.Common.{refl, inr}
 use Rattle.qz_top.proofs.AnswerLemmas.{no_read_fault}
-use Rattle.qz_top.proofs.OptimiseLemmas.{made_by_rules, late_by_rules, taken_for_rules}
+use Rattle.qz_top.specs.Optimise.{rule_file}
+use Rattle.qz_top.proofs.FileLemmas.{taken_for}
+use Rattle.qz_top.proofs.OptimiseLemmas.{made_by_rules, late_by_rules}
 use Rattle.qz_top.proofs.optimise.optimised_by.Goals as goal
 
 pub returns-in-Ok-clause-made : goal.returns-in-Ok-clause-made
@@ -22,4 +24,4 @@ pub returns-in-Err-clause-read_fault : goal.returns-in-Err-clause-read_fault
 returns-in-Err-clause-read_fault g c = λ e. absurd (no_read_fault _ _ _ (c.in-Err.ensures.made c.args.plan) cc)
 
 pub returns-in-Ok-clause-file_taken : goal.returns-in-Ok-clause-file_taken
-returns-in-Ok-clause-file_taken g c = λ file tells. taken_for_rules file _ _ c.optimised_input.result (c.in-Ok.ensures.file_taken file tells)
+returns-in-Ok-clause-file_taken g c = λ file tells. taken_for rule_file file _ _ c.optimised_input.result (c.in-Ok.ensures.file_taken file tells)

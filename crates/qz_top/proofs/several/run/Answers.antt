@@ -1,7 +1,8 @@
 use Rattle.std.proofs.Common.{map, string_bytes, sym, ap, ◌∙◌, Ok}
 use Rattle.qz_top.proofs.AnswerLemmas.{words_carried}
 use Rattle.qz_top.proofs.AnswerTexts.{answer_tells, plain_done, no_report, report_told}
-use Rattle.qz_top.proofs.RunLemmas.{tells_same, same_command, words_need, words_need_or, words_ask}
+use Rattle.qz_top.proofs.RunLemmas.{tells_same, same_command, words_need, words_need_or, words_ask, file_same}
+use Rattle.qz_top.specs.Run.{file_said}
 use Rattle.qz_top.proofs.several.run.Goals as goal
 
 pub returns-in-Some-clause-carried_out : goal.returns-in-Some-clause-carried_out
@@ -42,9 +43,13 @@ pub returns-in-Some-clause-at_end : goal.returns-in-Some-clause-at_end
 returns-in-Some-clause-at_end g c = λ asks. c.carry_out-status.ensures.at_end (words_ask (map string_bytes c.args.words.now) c.in-Some.command c.in-Some.ensures.command asks)
 
 pub returns-in-Some-clause-file_taken : goal.returns-in-Some-clause-file_taken
-returns-in-Some-clause-file_taken g c = λ k plan workers file is.
-    c.carry_out-status.ensures.file_taken k plan workers file (same_command (map string_bytes c.args.words.now) c.in-Some.command _ c.in-Some.ensures.command is)
+returns-in-Some-clause-file_taken g c = λ named file asked. c.carry_out-status.ensures.file_taken named file (file_same (map string_bytes c.args.words.now) c.in-Some.command _ c.in-Some.ensures.command asked)
 
 pub returns-in-Some-clause-file_at_end : goal.returns-in-Some-clause-file_at_end
-returns-in-Some-clause-file_at_end g c = λ k plan workers is.
-    c.carry_out-status.ensures.file_at_end k plan workers (same_command (map string_bytes c.args.words.now) c.in-Some.command _ c.in-Some.ensures.command is)
+returns-in-Some-clause-file_at_end g c = λ some. c.carry_out-status.ensures.file_at_end (λ none. some (sym (ap file_said c.in-Some.ensures.command) ∙ none))
+
+pub returns-in-Some-clause-shelf_fault : goal.returns-in-Some-clause-shelf_fault
+returns-in-Some-clause-shelf_fault g c = λ e none. c.carry_out-status.ensures.shelf_fault e (file_same (map string_bytes c.args.words.now) c.in-Some.command _ c.in-Some.ensures.command none)
+
+pub returns-in-Some-clause-unopened : goal.returns-in-Some-clause-unopened
+returns-in-Some-clause-unopened g c = λ none. c.carry_out-status.ensures.unopened (file_same (map string_bytes c.args.words.now) c.in-Some.command _ c.in-Some.ensures.command none)

@@ -2,7 +2,8 @@ use Rattle.std.proofs.Common.{map, string_bytes, refl, sym, ap, ◌∙◌, Ok}
 use Rattle.qz_top.specs.FaultTexts.{status_text}
 use Rattle.qz_top.proofs.AnswerLemmas.{words_carried, words_refused}
 use Rattle.qz_top.proofs.AnswerTexts.{answer_tells, refusal_told, plain_done, no_report, report_told}
-use Rattle.qz_top.proofs.RunLemmas.{tells_same, same_command, words_need, words_need_or, words_ask, refused_ask}
+use Rattle.qz_top.proofs.RunLemmas.{tells_same, same_command, words_need, words_need_or, words_ask, refused_ask, file_same, refused_opens_none, refused_asks_none}
+use Rattle.qz_top.specs.Run.{file_said}
 use Rattle.qz_top.proofs.solo.run_solo.Goals as goal
 
 pub returns-in-Ok-clause-carried_out : goal.returns-in-Ok-clause-carried_out
@@ -57,9 +58,19 @@ pub returns-in-Err-clause-at_end : goal.returns-in-Err-clause-at_end
 returns-in-Err-clause-at_end g c = λ asks. absurd (refused_ask (map string_bytes c.args.words.now) c.in-Err.fault c.in-Err.ensures.command asks)
 
 pub returns-in-Ok-clause-file_taken : goal.returns-in-Ok-clause-file_taken
-returns-in-Ok-clause-file_taken g c = λ k plan workers file is.
-    c.carry_out-status.ensures.file_taken k plan workers file (same_command (map string_bytes c.args.words.now) c.in-Ok.command _ c.in-Ok.ensures.command is)
+returns-in-Ok-clause-file_taken g c = λ named file asked. c.carry_out-status.ensures.file_taken named file (file_same (map string_bytes c.args.words.now) c.in-Ok.command _ c.in-Ok.ensures.command asked)
 
 pub returns-in-Ok-clause-file_at_end : goal.returns-in-Ok-clause-file_at_end
-returns-in-Ok-clause-file_at_end g c = λ k plan workers is.
-    c.carry_out-status.ensures.file_at_end k plan workers (same_command (map string_bytes c.args.words.now) c.in-Ok.command _ c.in-Ok.ensures.command is)
+returns-in-Ok-clause-file_at_end g c = λ some. c.carry_out-status.ensures.file_at_end (λ none. some (sym (ap file_said c.in-Ok.ensures.command) ∙ none))
+
+pub returns-in-Ok-clause-shelf_fault : goal.returns-in-Ok-clause-shelf_fault
+returns-in-Ok-clause-shelf_fault g c = λ e none. c.carry_out-status.ensures.shelf_fault e (file_same (map string_bytes c.args.words.now) c.in-Ok.command _ c.in-Ok.ensures.command none)
+
+pub returns-in-Ok-clause-unopened : goal.returns-in-Ok-clause-unopened
+returns-in-Ok-clause-unopened g c = λ none. c.carry_out-status.ensures.unopened (file_same (map string_bytes c.args.words.now) c.in-Ok.command _ c.in-Ok.ensures.command none)
+
+pub returns-in-Err-clause-file_taken : goal.returns-in-Err-clause-file_taken
+returns-in-Err-clause-file_taken g c = λ named file asked. absurd (refused_opens_none (map string_bytes c.args.words.now) c.in-Err.fault named c.in-Err.ensures.command asked)
+
+pub returns-in-Err-clause-file_at_end : goal.returns-in-Err-clause-file_at_end
+returns-in-Err-clause-file_at_end g c = λ some. absurd (some (refused_asks_none (map string_bytes c.args.words.now) c.in-Err.fault c.in-Err.ensures.command))
