@@ -6,7 +6,7 @@ use Rattle.qz_circ.specs.Circuit.{Circuit}
 use Rattle.qz_circ.specs.Joined.{Step, AreSteps, Joined}
 
 -- the last circuit of a chain that begins with x
-abbrev last_of : Circuit → List Circuit → Circuit
+abbrev pub last_of : Circuit → List Circuit → Circuit
 last_of x [] = x
 last_of x (y ∷ rest) = last_of y rest
 
