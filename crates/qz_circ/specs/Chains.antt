@@ -31,6 +31,11 @@ pub record IsLowered (b : Limits) (c d : Circuit) : Type 0 where
   pub equivalent : Equivalent b.q put (part_of start stop c)
   pub replaced : d ≡ take start c ++ put ++ drop stop c
 
+-- the last circuit of a list that begins with x
+abbrev pub last_of : Circuit → List Circuit → Circuit
+last_of x [] = x
+last_of x (y ∷ rest) = last_of y rest
+
 -- the circuits after c, each the one before it lowered, up to a representative
 abbrev pub IsDown : Limits → Circuit → List Circuit → Type 0
 IsDown b c [] = IsRepresentative b c

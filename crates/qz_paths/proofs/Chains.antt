@@ -3,12 +3,8 @@ use Rattle.std.proofs.Common.{◌≡◌, ℕ, ◌-◌, ◌≤◌, List, [], ◌�
 use Rattle.std.specs.Prelude.{slice_get, Some}
 use Rattle.std.specs.List.{AllByRecursion}
 use Rattle.qz_circ.specs.Circuit.{Circuit}
+use Rattle.qz_circ.specs.Chains.{last_of}
 use Rattle.qz_circ.specs.Joined.{Step, AreSteps, Joined}
-
--- the last circuit of a chain that begins with x
-abbrev pub last_of : Circuit → List Circuit → Circuit
-last_of x [] = x
-last_of x (y ∷ rest) = last_of y rest
 
 -- a chain of steps leads from x over the rest to y, and none of its circuits has over n gates
 pub record Linked (classes : List (List Circuit)) (n : ℕ) (x y : Circuit) : Type 0 where
@@ -36,7 +32,7 @@ module _ (classes : List (List Circuit)) (n : ℕ) where
   linked_on x y z first second = follow y z second x first.rest first.short first.ends first.steps
 
   -- the last element of a chain
-  last_listed : (x : Circuit) (rest : List Circuit) → slice_get (x ∷ rest) (length rest) ≡ Some (last_of x rest)
+  pub last_listed : (x : Circuit) (rest : List Circuit) → slice_get (x ∷ rest) (length rest) ≡ Some (last_of x rest)
   last_listed x [] = refl
   last_listed x (y ∷ rest) = last_listed y rest
 
