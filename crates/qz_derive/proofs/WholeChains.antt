@@ -112,7 +112,7 @@ module _ (b : Limits) (lawful : IsLawful b) where
           starts = refl;
           ends =
               let last : length (a ∷ (h.first ++ t.back)) - 1 ≡ length (h.first ++ t.back) = omega arith in
-              ap (slice_get (a ∷ (h.first ++ t.back))) last ∙ last_listed by b.n a (h.first ++ t.back) ∙ ap Some ends;
+              ap (slice_get (a ∷ (h.first ++ t.back))) last ∙ last_listed (Step by) b.n a (h.first ++ t.back) ∙ ap Some ends;
           steps = steps-append by a (last_of c h.second) h.first t.back (down_steps a h.first wa h.from_first) one t.steps;
         } in
         subst (Leads by b.n a c) (sym is) whole

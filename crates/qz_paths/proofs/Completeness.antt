@@ -27,8 +27,8 @@ record Reduced (b : Limits) (classes : List (List ℕ)) (c : Circuit) : Type 0 w
   representative : Circuit
   least : IsRepresentative b representative
   equivalent : Equivalent b.q representative c
-  there : Linked (circuits_of_ranks b classes) b.n c representative
-  back : Linked (circuits_of_ranks b classes) b.n representative c
+  there : Linked (Step (circuits_of_ranks b classes)) b.n c representative
+  back : Linked (Step (circuits_of_ranks b classes)) b.n representative c
 
 module _ (b : Limits) (lawful : IsLawful b) (classes : List (List ℕ)) (h : IsClassList b classes) where
   -- a circuit whose rank is in a class is among the class's circuits
@@ -64,15 +64,16 @@ module _ (b : Limits) (lawful : IsLawful b) (classes : List (List ℕ)) (h : IsC
     representative = c;
     least = least;
     equivalent = reflexive b.q c;
-    there = linked_itself (circuits_of_ranks b classes) b.n c least.within.short;
-    back = linked_itself (circuits_of_ranks b classes) b.n c least.within.short;
+    there = linked_itself (Step (circuits_of_ranks b classes)) b.n c least.within.short;
+    back = linked_itself (Step (circuits_of_ranks b classes)) b.n c least.within.short;
   }
 
   -- a circuit is reduced by a step to an earlier one that is reduced
   reduced_by : (c d : Circuit) → Within b c → Earlier b classes c d → Reduced b classes d → Reduced b classes c
   reduced_by c d within e r =
-      let by = circuits_of_ranks b classes in
-      let last = linked_first by b.n d c c e.within.short (step_back by c d e.step) (linked_itself by b.n c within.short) in
+      let classes' = circuits_of_ranks b classes in
+      let by = Step classes' in
+      let last = linked_first by b.n d c c e.within.short (step_back classes' c d e.step) (linked_itself by b.n c within.short) in
       record {
         representative = r.representative;
         least = r.least;
@@ -103,6 +104,7 @@ module _ (b : Limits) (lawful : IsLawful b) (classes : List (List ℕ)) (h : IsC
       let to_c = transitive b.q first.representative a c first.equivalent same in
       let to_second = transitive b.q first.representative c second.representative to_c (symmetric b.q second.representative c second.equivalent) in
       let one = same_representative b lawful first.representative second.representative first.least second.least to_second in
-      let by = circuits_of_ranks b classes in
+      let classes' = circuits_of_ranks b classes in
+      let by = Step classes' in
       let there : Linked by b.n a second.representative = subst (Linked by b.n a) one first.there in
       joined_from_linked by b.n a c (linked_on by b.n a second.representative c there second.back)

@@ -1,19 +1,20 @@
 -- What a pair of a class list tells: its first circuit is the representative of its later one, and which kept circuits stand in none.
-use Rattle.std.proofs.Common.{◌≡◌, ℕ, ◌<◌, true, List, [], ◌∷◌, map, ◌⊎◌, inl, inr, refl, sym, ap, subst, ◌∙◌, arith}
+use Rattle.std.proofs.Common.{◌≡◌, ℕ, ◌<◌, true, List, [], ◌∷◌, map, length, ◌⊎◌, inl, inr, refl, sym, ap, subst, ◌∙◌, arith}
 use Rattle.std.specs.Prelude.{Contains}
 use Rattle.std.specs.List.{flat_map}
+use Rattle.std.specs.List.Sorted.{IsStrictlyIncreasing}
 use Rattle.std.proofs.lemmas.Bool.{cases_eq}
 use Rattle.std.proofs.lemmas.List.Elements.{Contains-append_cases, Contains-append_left, Contains-append_right}
 use Rattle.std.proofs.lemmas.List.Kept.{AllPairs-from_increasing}
 use Rattle.qz_circ.specs.Circuit.{Circuit, Limits, Within}
 use Rattle.qz_circ.specs.Bounds.{IsLawful}
 use Rattle.qz_circ.specs.Equivalence.{Equivalent}
-use Rattle.qz_circ.specs.Order.{is_before, rank, circuit_at}
+use Rattle.qz_circ.specs.Order.{is_before, rank, circuit_at, all_circuits}
 use Rattle.qz_circ.specs.Classes.{IsRepresentative, IsKept, IsClassList, ListsExactly, IsMemberRank}
 use Rattle.qz_circ.specs.Pairs.{Pair, class_pairs, pairs_of}
 use Rattle.qz_circ.proofs.CircuitPlaces.{Contains-map}
 use Rattle.qz_circ.proofs.ClassLaws.{contains_cases, contains_first, contains_rest, contains_none, first_below}
-use Rattle.qz_circ.proofs.RankLemmas.{before_by_rank, circuit_at-rank}
+use Rattle.qz_circ.proofs.RankLemmas.{before_by_rank, circuit_at-rank, rank_listed}
 use Rattle.qz_paths.proofs.Equivalences.{reflexive, symmetric, transitive}
 use Rattle.qz_paths.proofs.Least.{representative_kept}
 use Rattle.qz_paths.proofs.ClassesFound.{ClassOf, known, has_class, same_representative}
@@ -106,6 +107,16 @@ module _ (b : Limits) (lawful : IsLawful b) where
       ]
 
   module _ (classes : List (List ℕ)) (h : IsClassList b classes) where
+    -- a class rises
+    pub class_rises : (list : List ℕ) → Contains classes list → IsStrictlyIncreasing list
+    class_rises list is_class = (of_class b classes h list is_class).exactly.rising
+
+    -- and its members are ranks of circuits within the limits
+    pub member_listed : (list : List ℕ) → Contains classes list → (r : ℕ) → Contains list r → r < length (all_circuits b)
+    member_listed list is_class r has =
+        let m = ((of_class b classes h list is_class).exactly.exactly r).0 has in
+        omega (arith, m.ranked, rank_listed b lawful m.member m.kept.within)
+
     -- what a pair says of its later circuit
     pub later_is : (first : ℕ) (c : Circuit) → Within b c → Contains (pairs_of classes) (record { first = first; later = rank b c }) → LaterMember b classes first c
     later_is first c within listed =
