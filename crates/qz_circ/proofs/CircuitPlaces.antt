@@ -49,7 +49,7 @@ pub Contains-map : {A B : Type 0} (f : A → B) (xs : List A) (x : A) → Contai
 Contains-map f xs x (k, within, is) = (k, omega (arith, length-map xs f), get_or-map f xs k x (f x) within ∙ ap f is)
 
 -- what stands in a piece stands among the pieces
-Contains-flat_map : {A B : Type 0} (f : A → List B) (xs : List A) (x : A) (y : B) → Contains xs x → Contains (f x) y → Contains (flat_map f xs) y
+pub Contains-flat_map : {A B : Type 0} (f : A → List B) (xs : List A) (x : A) (y : B) → Contains xs x → Contains (f x) y → Contains (flat_map f xs) y
 Contains-flat_map f xs x y (i, within, is) (j, inside, there) =
     let piece : f (get_or xs i x) ≡ f x = ap f is in
     let inside_piece : j < length (f (get_or xs i x)) = rw is inside in

@@ -22,19 +22,27 @@ pub record Step (classes : List (List Circuit)) (x y : Circuit) : Type 0 where
   pub before : x ≡ front ++ old ++ back
   pub after : y ≡ front ++ new ++ back
 
+-- each next circuit is reached from the one before
+abbrev pub AreReached : (Circuit → Circuit → Type 0) → List Circuit → Type 0
+AreReached R [] = Unit {0}
+AreReached R (x ∷ []) = Unit {0}
+AreReached R (x ∷ y ∷ rest) = R x y × AreReached R (y ∷ rest)
+
 -- each next circuit is a step from the one before
 abbrev pub AreSteps : List (List Circuit) → List Circuit → Type 0
-AreSteps classes [] = Unit {0}
-AreSteps classes (x ∷ []) = Unit {0}
-AreSteps classes (x ∷ y ∷ rest) = Step classes x y × AreSteps classes (y ∷ rest)
+AreSteps classes chain = AreReached (Step classes) chain
 
--- a list of circuits of at most n gates leads from x to y by steps
-pub record Joined (classes : List (List Circuit)) (n : ℕ) (x y : Circuit) : Type 0 where
+-- a list of circuits of at most n gates leads from x to y, each next one reached from the one before
+pub record JoinedBy (R : Circuit → Circuit → Type 0) (n : ℕ) (x y : Circuit) : Type 0 where
   pub chain : List Circuit
   pub short : AllByRecursion (λ c. length c ≤ n) chain
   pub starts : slice_get chain 0 ≡ Some x
   pub ends : slice_get chain (length chain - 1) ≡ Some y
-  pub steps : AreSteps classes chain
+  pub steps : AreReached R chain
+
+-- a list of circuits of at most n gates leads from x to y by steps
+abbrev pub Joined : List (List Circuit) → ℕ → Circuit → Circuit → Type 0
+Joined classes n x y = JoinedBy (Step classes) n x y
 
 -- the classes join any two circuits within the limits that are equivalent, over circuits of no more gates than the limits allow
 abbrev pub JoinsEquivalent : Limits → List (List ℕ) → Type 0

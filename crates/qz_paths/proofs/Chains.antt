@@ -3,45 +3,41 @@ use Rattle.std.proofs.Common.{◌≡◌, ℕ, ◌-◌, ◌≤◌, List, [], ◌�
 use Rattle.std.specs.Prelude.{slice_get, Some}
 use Rattle.std.specs.List.{AllByRecursion}
 use Rattle.qz_circ.specs.Circuit.{Circuit}
-use Rattle.qz_circ.specs.Joined.{Step, AreSteps, Joined}
+use Rattle.qz_circ.specs.Chains.{last_of}
+use Rattle.qz_circ.specs.Joined.{Step, AreSteps, AreReached, JoinedBy}
 
--- the last circuit of a chain that begins with x
-abbrev last_of : Circuit → List Circuit → Circuit
-last_of x [] = x
-last_of x (y ∷ rest) = last_of y rest
-
--- a chain of steps leads from x over the rest to y, and none of its circuits has over n gates
-pub record Linked (classes : List (List Circuit)) (n : ℕ) (x y : Circuit) : Type 0 where
+-- a chain leads from x over the rest to y, each next circuit reached from the one before, and none has over n gates
+pub record Linked (R : Circuit → Circuit → Type 0) (n : ℕ) (x y : Circuit) : Type 0 where
   pub rest : List Circuit
   pub short : AllByRecursion (λ c. length c ≤ n) (x ∷ rest)
   pub ends : last_of x rest ≡ y
-  pub steps : AreSteps classes (x ∷ rest)
+  pub steps : AreReached R (x ∷ rest)
 
-module _ (classes : List (List Circuit)) (n : ℕ) where
+module _ (R : Circuit → Circuit → Type 0) (n : ℕ) where
   -- no step at all
-  pub linked_itself : (x : Circuit) → length x ≤ n → Linked classes n x x
+  pub linked_itself : (x : Circuit) → length x ≤ n → Linked R n x x
   linked_itself x few = record { rest = []; short = (few, tt); ends = refl; steps = tt }
 
   -- a step and then others
-  pub linked_first : (x y z : Circuit) → length x ≤ n → Step classes x y → Linked classes n y z → Linked classes n x z
+  pub linked_first : (x y z : Circuit) → length x ≤ n → R x y → Linked R n y z → Linked R n x z
   linked_first x y z few first h = record { rest = y ∷ h.rest; short = (few, h.short); ends = h.ends; steps = (first, h.steps) }
 
   -- some steps and then others, by the circuits of the first ones
-  follow : (y z : Circuit) → Linked classes n y z → (x : Circuit) (rest : List Circuit) → AllByRecursion (λ c. length c ≤ n) (x ∷ rest) → last_of x rest ≡ y → AreSteps classes (x ∷ rest) → Linked classes n x z
-  follow y z h x [] short ends steps = subst (λ c. Linked classes n c z) (sym ends) h
+  follow : (y z : Circuit) → Linked R n y z → (x : Circuit) (rest : List Circuit) → AllByRecursion (λ c. length c ≤ n) (x ∷ rest) → last_of x rest ≡ y → AreReached R (x ∷ rest) → Linked R n x z
+  follow y z h x [] short ends steps = subst (λ c. Linked R n c z) (sym ends) h
   follow y z h x (w ∷ rest) short ends steps = linked_first x w z short.0 steps.0 (follow y z h w rest short.1 ends steps.1)
 
   -- some steps and then others
-  pub linked_on : (x y z : Circuit) → Linked classes n x y → Linked classes n y z → Linked classes n x z
+  pub linked_on : (x y z : Circuit) → Linked R n x y → Linked R n y z → Linked R n x z
   linked_on x y z first second = follow y z second x first.rest first.short first.ends first.steps
 
   -- the last element of a chain
-  last_listed : (x : Circuit) (rest : List Circuit) → slice_get (x ∷ rest) (length rest) ≡ Some (last_of x rest)
+  pub last_listed : (x : Circuit) (rest : List Circuit) → slice_get (x ∷ rest) (length rest) ≡ Some (last_of x rest)
   last_listed x [] = refl
   last_listed x (y ∷ rest) = last_listed y rest
 
   -- a chain of steps joins its ends
-  pub joined_from_linked : (x y : Circuit) → Linked classes n x y → Joined classes n x y
+  pub joined_from_linked : (x y : Circuit) → Linked R n x y → JoinedBy R n x y
   joined_from_linked x y h = record {
     chain = x ∷ h.rest;
     short = h.short;

@@ -99,7 +99,7 @@ module _ (b : Limits) (lawful : IsLawful b) where
       by (inr (inr more)) = absurd (hc.first d hd.within ((before_by_rank b lawful d c hd.within hc.within).1 more) (symmetric b.q c d same))
 
   -- a representative that is equivalent to a circuit that is none is earlier
-  before_its_class : (c r : Circuit) → Within b c → (IsRepresentative b c → ⊥) → IsRepresentative b r → Equivalent b.q c r → is_before r c ≡ true
+  pub before_its_class : (c r : Circuit) → Within b c → (IsRepresentative b c → ⊥) → IsRepresentative b r → Equivalent b.q c r → is_before r c ≡ true
   before_its_class c r wc later hr same = by (cases_order (rank b r) (rank b c))
     where
       by : (rank b r ≡ rank b c) ⊎ ((rank b r < rank b c) ⊎ (rank b c < rank b r)) → is_before r c ≡ true

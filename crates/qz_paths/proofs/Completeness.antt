@@ -13,51 +13,47 @@ use Rattle.qz_paths.proofs.Equivalences.{reflexive, symmetric, transitive}
 use Rattle.qz_paths.proofs.Parts.{within-replaced, before_not_longer, before-replaced, equivalent-replaced}
 use Rattle.qz_paths.proofs.Least.{kept_part}
 use Rattle.qz_paths.proofs.Chains.{Linked, linked_itself, linked_first, linked_on, joined_from_linked, step_back}
-use Rattle.qz_paths.proofs.ClassesFound.{known, has_class, same_representative}
+use Rattle.qz_paths.proofs.ClassesFound.{ClassOf, known, has_class, same_representative}
 
--- one step by the classes leads to an earlier equivalent circuit within the limits
-record Earlier (b : Limits) (classes : List (List ℕ)) (c : Circuit) : Type 0 where
-  circuit : Circuit
-  within : Within b circuit
-  before : is_before circuit c ≡ true
-  equivalent : Equivalent b.q circuit c
-  step : Step (circuits_of_ranks b classes) c circuit
+-- one step by the classes leads from c to d, an earlier equivalent circuit within the limits
+pub record Earlier (b : Limits) (classes : List (List ℕ)) (c d : Circuit) : Type 0 where
+  pub within : Within b d
+  pub before : is_before d c ≡ true
+  pub equivalent : Equivalent b.q d c
+  pub step : Step (circuits_of_ranks b classes) c d
 
 -- steps by the classes lead to an equivalent representative and back
 record Reduced (b : Limits) (classes : List (List ℕ)) (c : Circuit) : Type 0 where
   representative : Circuit
   least : IsRepresentative b representative
   equivalent : Equivalent b.q representative c
-  there : Linked (circuits_of_ranks b classes) b.n c representative
-  back : Linked (circuits_of_ranks b classes) b.n representative c
+  there : Linked (Step (circuits_of_ranks b classes)) b.n c representative
+  back : Linked (Step (circuits_of_ranks b classes)) b.n representative c
 
 module _ (b : Limits) (lawful : IsLawful b) (classes : List (List ℕ)) (h : IsClassList b classes) where
   -- a circuit whose rank is in a class is among the class's circuits
   listed : (list : List ℕ) (c : Circuit) → Within b c → Contains list (rank b c) → Contains (map (circuit_at b) list) c
   listed list c within has = subst (Contains (map (circuit_at b) list)) (circuit_at-rank b lawful c within) (Contains-map (circuit_at b) list (rank b c) has)
 
-  -- from each circuit that is no representative
-  earlier : (c : Circuit) → Within b c → (IsRepresentative b c → ⊥) → Earlier b classes c
-  earlier c within later =
-      let found = kept_part b (known b lawful classes h) (length c) c (omega arith) within later in
-      let class = has_class b lawful classes h found.part found.kept found.later in
+  -- by the representative of a class in place of a part
+  pub earlier : (c front part back : Circuit) → Within b c → c ≡ front ++ part ++ back → Within b part → (class : ClassOf b classes part) → Earlier b classes c (front ++ class.representative ++ back)
+  earlier c front part back within is within_part class =
       let r = class.representative in
-      let whole : Within b (found.front ++ found.part ++ found.back) = subst (Within b) found.is within in
+      let whole : Within b (front ++ part ++ back) = subst (Within b) is within in
       record {
-        circuit = found.front ++ r ++ found.back;
-        within = within-replaced b found.front found.part found.back whole r class.within (before_not_longer r found.part class.before);
-        before = subst (λ x. is_before (found.front ++ r ++ found.back) x ≡ true) (sym found.is) (before-replaced found.front r found.part found.back class.before);
-        equivalent = subst (Equivalent b.q (found.front ++ r ++ found.back)) (sym found.is) (equivalent-replaced b found.front r found.part found.back whole class.within class.equivalent);
+        within = within-replaced b front part back whole r class.within (before_not_longer r part class.before);
+        before = subst (λ x. is_before (front ++ r ++ back) x ≡ true) (sym is) (before-replaced front r part back class.before);
+        equivalent = subst (Equivalent b.q (front ++ r ++ back)) (sym is) (equivalent-replaced b front r part back whole class.within class.equivalent);
         step = record {
-          front = found.front;
-          back = found.back;
+          front = front;
+          back = back;
           members = map (circuit_at b) class.list;
-          old = found.part;
+          old = part;
           new = r;
           is_class = Contains-map (map (circuit_at b)) classes class.list class.is_class;
-          old_member = listed class.list found.part found.kept.within class.has;
+          old_member = listed class.list part within_part class.has;
           new_member = listed class.list r class.within class.has_representative;
-          before = found.is;
+          before = is;
           after = refl;
         };
       }
@@ -68,21 +64,22 @@ module _ (b : Limits) (lawful : IsLawful b) (classes : List (List ℕ)) (h : IsC
     representative = c;
     least = least;
     equivalent = reflexive b.q c;
-    there = linked_itself (circuits_of_ranks b classes) b.n c least.within.short;
-    back = linked_itself (circuits_of_ranks b classes) b.n c least.within.short;
+    there = linked_itself (Step (circuits_of_ranks b classes)) b.n c least.within.short;
+    back = linked_itself (Step (circuits_of_ranks b classes)) b.n c least.within.short;
   }
 
   -- a circuit is reduced by a step to an earlier one that is reduced
-  reduced_by : (c : Circuit) → Within b c → (e : Earlier b classes c) → Reduced b classes e.circuit → Reduced b classes c
-  reduced_by c within e r =
-      let by = circuits_of_ranks b classes in
-      let last = linked_first by b.n e.circuit c c e.within.short (step_back by c e.circuit e.step) (linked_itself by b.n c within.short) in
+  reduced_by : (c d : Circuit) → Within b c → Earlier b classes c d → Reduced b classes d → Reduced b classes c
+  reduced_by c d within e r =
+      let classes' = circuits_of_ranks b classes in
+      let by = Step classes' in
+      let last = linked_first by b.n d c c e.within.short (step_back classes' c d e.step) (linked_itself by b.n c within.short) in
       record {
         representative = r.representative;
         least = r.least;
-        equivalent = transitive b.q r.representative e.circuit c r.equivalent e.equivalent;
-        there = linked_first by b.n c e.circuit r.representative within.short e.step r.there;
-        back = linked_on by b.n r.representative e.circuit c r.back last;
+        equivalent = transitive b.q r.representative d c r.equivalent e.equivalent;
+        there = linked_first by b.n c d r.representative within.short e.step r.there;
+        back = linked_on by b.n r.representative d c r.back last;
       }
 
   -- each circuit is reduced
@@ -91,9 +88,12 @@ module _ (b : Limits) (lawful : IsLawful b) (classes : List (List ℕ)) (h : IsC
   reduced (suc bound) c within less = elim (known b lawful classes h c within) [
     | inl least ↦ reduced_itself c least
     | inr later ↦
-        let e = earlier c within later in
-        let lower = (before_by_rank b lawful e.circuit c e.within within).0 e.before in
-        reduced_by c within e (reduced bound e.circuit e.within (omega (arith, lower, less)))
+        let found = kept_part b (known b lawful classes h) (length c) c (omega arith) within later in
+        let class = has_class b lawful classes h found.part found.kept found.later in
+        let d = found.front ++ class.representative ++ found.back in
+        let e = earlier c found.front found.part found.back within found.is found.kept.within class in
+        let lower = (before_by_rank b lawful d c e.within within).0 e.before in
+        reduced_by c d within e (reduced bound d e.within (omega (arith, lower, less)))
   ]
 
   -- the classes join equivalent circuits: both are reduced, to the same representative
@@ -104,6 +104,7 @@ module _ (b : Limits) (lawful : IsLawful b) (classes : List (List ℕ)) (h : IsC
       let to_c = transitive b.q first.representative a c first.equivalent same in
       let to_second = transitive b.q first.representative c second.representative to_c (symmetric b.q second.representative c second.equivalent) in
       let one = same_representative b lawful first.representative second.representative first.least second.least to_second in
-      let by = circuits_of_ranks b classes in
+      let classes' = circuits_of_ranks b classes in
+      let by = Step classes' in
       let there : Linked by b.n a second.representative = subst (Linked by b.n a) one first.there in
       joined_from_linked by b.n a c (linked_on by b.n a second.representative c there second.back)

@@ -1,12 +1,13 @@
 pub mod Weights
 pub mod Equivalences
 pub mod Members
+pub mod LaterMembers
 pub mod Runs
 pub mod Congruence
 pub mod Commuting
 pub mod Parts
 pub mod Least
-mod Chains
+pub mod Chains
 pub mod ClassesFound
 pub mod Completeness
 pub mod OneQubit
