@@ -152,8 +152,7 @@ pub(crate) fn find(
     let mut high_same = 0;
     while low < high {
         let middle = probe(seek, low, high, list.len());
-        let (order, same) =
-            compare_from(list, middle, c, price, low_same.min(high_same), weights);
+        let (order, same) = compare_from(list, middle, c, price, low_same.min(high_same), weights);
         if order.is_lt() {
             low = middle + 1;
             low_same = same;

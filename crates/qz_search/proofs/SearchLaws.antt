@@ -80,7 +80,7 @@ module _ (children : ProgramCircuit → List ProgramCircuit) (plan : PlanNumbers
   next_has : (s : SearchState) (k : ProgramCircuit) → Has (queue_next children plan s) k → Has (choice children plan s) k
   unfolding first_cap
   next_has s k h =
-      has_different (program_cmp plan.weights)_total (program_cmp_exact plan.weights) k (choice children plan s) (has_take plan.cap (different (program_cmp plan.weights) plan.weights (choice children plan s)) k h)
+      has_different (program_cmp plan.weights) _total (program_cmp_exact plan.weights) k (choice children plan s) (has_take plan.cap (different (program_cmp plan.weights) plan.weights (choice children plan s)) k h)
 
   -- where nothing is dropped, all that is chosen from waits
   has_next : (s : SearchState) (k : ProgramCircuit) → length (different (program_cmp plan.weights) plan.weights (choice children plan s)) ≤ plan.cap → Has (choice children plan s) k → Has (queue_next children plan s) k

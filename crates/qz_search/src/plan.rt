@@ -77,13 +77,7 @@ fn has_no_weight(weights: [u64; 4]) -> bool
 
 // The first of these numbers that is refused, if any.
 #[tactic(auto, using(std::proofs::lemmas::Bool::Decides::nat_tests), unfolding(crate::specs::PlanFaults::plan_refusal))]
-fn refused(
-    rounds: u64,
-    batch: u64,
-    cap: u64,
-    slack: u64,
-    weights: [u64; 4],
-) -> Option<PlanFault>
+fn refused(rounds: u64, batch: u64, cap: u64, slack: u64, weights: [u64; 4]) -> Option<PlanFault>
     ensures { result ≡ plan_refusal (record { rounds = rounds; batch = batch; cap = cap; slack = slack; weights = weights }) }
 {
     if batch < 1 || batch > MOST_TAKEN {

@@ -122,7 +122,11 @@ fn gate_cost(bind: &Binding, g: Op, weights: [u8; 4]) -> u8
         Op::H(_) => weights[0],
         Op::X(_) => weights[1],
         Op::Cx(_, _) => weights[2],
-        Op::Rz(_, e) => if angle_value(bind, e) == 0 { 0 } else { weights[3] },
+        Op::Rz(_, e) => if angle_value(bind, e) == 0 {
+            0
+        } else {
+            weights[3]
+        },
     }
 }
 
