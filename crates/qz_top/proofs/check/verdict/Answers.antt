@@ -10,4 +10,4 @@ check-requires-clause-second c = gates_on c.args.file.now c.qubits_of-q.result c
 
 pub returns : goal.returns
 returns c =
-    verdict_of c.args.program.now c.args.file.now c.qubits_of-q.result c.gates.result.now c.gates-2.result.now c.in_ok-same.same _ c.qubits_of-q.ensures c.gates.ensures c.gates-2.ensures c.verdict_text.ensures c.in_ok-same.ensures
+    verdict_of c.args.program.now c.args.file.now c.qubits_of-q.result c.gates.result.now c.gates-2.result.now c.in_ok-same.same _ c.qubits_of-q.ensures c.gates.ensures c.gates-2.ensures c.verdict_text.ensures c.in_ok-same.ensures.exact
