@@ -160,7 +160,14 @@ fn status_text(status: Status) -> ShortText
         Status::FileQasm(fault) => program_text("file: ", fault),
         Status::Shapes { input, file } => {
             let (input, file) = (Number(input), Number(file));
-            joined(&[Text("check: "), input, Text(" and "), file, Text(" qubits"), end])
+            joined(&[
+                Text("check: "),
+                input,
+                Text(" and "),
+                file,
+                Text(" qubits"),
+                end,
+            ])
         }
         Status::RuleSyntax { place } => joined(&[Text("rules: Syntax at "), Number(place), end]),
         Status::Unsound { class, member } => {
