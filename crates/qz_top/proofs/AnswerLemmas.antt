@@ -250,6 +250,10 @@ words_refusal : (fault : WordFault) → IsRefusal (status_of_words fault)
 words_refusal word_fault.Usage = tt
 words_refusal (word_fault.Limit which) = tt
 
+-- and not by a fault of the shelf
+pub words_no_shelf_fault : (fault : WordFault) → status_of_words fault ≡ status.ShelfFault → ⊥
+words_no_shelf_fault fault e = subst IsRefusal e (words_refusal fault)
+
 -- the answer to words that ask for no command is their refusal, before the outside is touched
 pub words_refused : (words : List (List ℕ)) (fault : WordFault) (input : Input) (shelf : Storage) → Err fault ≡ command_of words → input.faults_after ≡ input.faults_before → IsCalm shelf → EndsEarly (WordsAnswer words) (status_of_words fault) input shelf
 words_refused words fault input shelf e calm quiet =

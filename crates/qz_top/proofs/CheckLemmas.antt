@@ -1,14 +1,16 @@
 -- What is made of two programs that are compared.
 use Rattle.std.proofs.Common.{◌≡◌, ℕ, ◌+◌, ◌<◌, ◌≤◌, ◌==◌, nat_lt, Bool, true, false, if◌then◌else◌, List, [], length, Option, Some, None, Result, Ok, Err, IsTrue, refl, subst, sym, ap, ◌∙◌, inl, inr, arith}
 use Rattle.std.specs.Prelude.{◌↔◌, ◌⊎◌, MatchResult, IfErr}
+use Rattle.std.specs.List.{AllByRecursion}
 use Rattle.std.specs.Option.{option_map}
 use Rattle.std.proofs.lemmas.Bool.{cases_lt}
 use Rattle.qz_circ.specs.declared.fault.QasmFault.{QasmFault}
 use Rattle.qz_circ.specs.declared.fault.Which.TheVariants.{InputBytes, CheckQubits, CheckHalves, CheckGates}
 use Rattle.qz_circ.specs.Grammar.{program_of}
-use Rattle.qz_circ.specs.ProgramCircuits.{program_halves}
+use Rattle.qz_circ.specs.ProgramCircuits.{ProgramCircuit, IsProgramGate, program_halves, EquivalentProgramCircuits}
 use Rattle.qz_circ.specs.Programs.{ProgramParts}
 use Rattle.qz_circ.specs.Registers.{total_size}
+use Rattle.qz_circ.specs.ValidPrograms.{Valid}
 use Rattle.qz_io.specs.Transfers.{Input}
 use Rattle.qz_top.specs.declared.status.Status.{Status}
 use Rattle.qz_top.specs.declared.status.Status.TheVariants as status
@@ -92,8 +94,20 @@ file_program_made name bytes seen shelf view made same read is = file_program na
 
 -- what is told of programs goes by the test
 pub verdict_is : (E : Type 0) (same : Bool) (text : List ℕ) → text ≡ verdict_text same → (IsTrue same ↔ E) → (E × (text ≡ verdict_text true)) ⊎ ((E → ⊥) × (text ≡ verdict_text false))
-verdict_is E true text is test = inl (test.0 tt, is)
-verdict_is E false text is test = inr (λ e. test.1 e, is)
+verdict_is E true text is test = inl (test.0 refl, is)
+verdict_is E false text is test = inr (λ e. let h : IsTrue false = test.1 e in cc, is)
+
+-- so it is where the circuits are those of the programs
+pub verdict_of : (p file : ProgramParts) (q : ℕ) (a c : ProgramCircuit) (same : Bool) (text : List ℕ) → q ≡ total_size p.qregs → a ≡ p.gates → c ≡ file.gates → text ≡ verdict_text same → (IsTrue same ↔ EquivalentProgramCircuits q a c) → IsVerdict p file text
+verdict_of p file q a c same text on first second is test =
+    verdict_is (EquivalentProgramCircuits (total_size p.qregs) p.gates file.gates) same text is
+    (subst (λ n. IsTrue same ↔ EquivalentProgramCircuits n p.gates file.gates) on
+    (subst (λ x. IsTrue same ↔ EquivalentProgramCircuits q x file.gates) first (subst (λ x. IsTrue same ↔ EquivalentProgramCircuits q a x) second test)))
+
+-- the gates of a valid program are on its qubits
+pub gates_on : (p : ProgramParts) (q : ℕ) (gates : ProgramCircuit) → Valid p → q ≡ total_size p.qregs → gates ≡ p.gates → AllByRecursion (IsProgramGate q) gates
+gates_on p q gates valid on same =
+    subst (λ (gs : ProgramCircuit). AllByRecursion (IsProgramGate q) gs) (sym same) (subst (λ n. AllByRecursion (IsProgramGate n) p.gates) (sym on) valid.gates.gates)
 
 -- a pair is refused after the input was read
 refused_late : (same x y z : Bool) (m n : ℕ) (s : Status) →

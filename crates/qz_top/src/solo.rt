@@ -110,7 +110,8 @@ pub(crate) fn carry_out<
             gates,
         } => (trial(alloc, seed, qubits, gates, out), None),
         Command::Check { other } => {
-            let status = check(alloc, word(words, other), input, shelf, out);
+            let name = word(words, other);
+            let status = check(alloc, name, input, shelf, out);
             (status, None)
         }
     }

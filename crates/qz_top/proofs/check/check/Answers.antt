@@ -9,7 +9,7 @@ use Rattle.qz_top.proofs.check.check.Goals as goal
 pub returns-in-Ok-clause-carried_out : goal.returns-in-Ok-clause-carried_out
 returns-in-Ok-clause-carried_out g c =
     carried_by_text (Checks c.args.name.now) c.in-Ok.text.now _ _ _ (checked_written c.args.name.now c.in-Ok.text.now _ _ c.in-Ok.ensures.made)
-    c.write_text.ensures.begun c.as_bytes.ensures c.write_text.ensures.written
+    c.write_text.ensures.begun c.as_bytes.ensures.value c.write_text.ensures.written
 
 pub returns-in-Ok-clause-before : goal.returns-in-Ok-clause-before
 returns-in-Ok-clause-before g c = λ b. absurd (c.write_text.ensures.begun (before_writes_nothing c.write_text.result b))

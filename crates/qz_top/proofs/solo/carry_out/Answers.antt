@@ -92,28 +92,31 @@ returns-in-Optimise-clause-unopened g c = λ none. absurd (opens_some c.args.com
 pub optimise-status-requires-clause-finds : goal.optimise-status-requires-clause-finds
 optimise-status-requires-clause-finds g c = c.requires.finds _ _ _ c.in-Optimise.is
 
+pub word-requires : goal.word-requires
+word-requires g c = rw c.in-Optimise.is at c.requires.within
+
 -- so it is with that of a check
-pub word-requires-2 : goal.word-requires-2
-word-requires-2 g c = rw c.in-Check.is at c.requires.within
+pub word-name-requires : goal.word-name-requires
+word-name-requires g c = rw c.in-Check.is at c.requires.within
 
 pub returns-in-Check-clause-told : goal.returns-in-Check-clause-told
 returns-in-Check-clause-told g c = rw c.in-Check.is (status_for_err (Check _) (λ text e. e) c.check-status.result)
 
 pub returns-in-Check-clause-carried_out : goal.returns-in-Check-clause-carried_out
 returns-in-Check-clause-carried_out g c =
-    carried_by_name (map string_bytes c.args.words.now) c.args.command _ c.in-Check.other c.word.result.now c.in-Check.is c.word.ensures Checks c.check-status.result _ (λ h. h) c.check-status.ensures.carried_out
+    carried_by_name (map string_bytes c.args.words.now) c.args.command _ c.in-Check.other c.word-name.result.now c.in-Check.is c.word-name.ensures Checks c.check-status.result _ (λ h. h) c.check-status.ensures.carried_out
 
 pub returns-in-Check-clause-unread : goal.returns-in-Check-clause-unread
 returns-in-Check-clause-unread g c =
-    needs_by_name_or (map string_bytes c.args.words.now) c.args.command _ c.in-Check.other c.word.result.now c.in-Check.is c.word.ensures _ HasProgram _ (λ h. h) c.check-status.ensures.unread
+    needs_by_name_or (map string_bytes c.args.words.now) c.args.command _ c.in-Check.other c.word-name.result.now c.in-Check.is c.word-name.ensures _ HasProgram _ (λ h. h) c.check-status.ensures.unread
 
 pub returns-in-Check-clause-read_fault : goal.returns-in-Check-clause-read_fault
 returns-in-Check-clause-read_fault g c = λ e.
-    needs_by_name (map string_bytes c.args.words.now) c.args.command _ c.in-Check.other c.word.result.now c.in-Check.is c.word.ensures HasProgram _ (λ h. h) (c.check-status.ensures.read_fault e)
+    needs_by_name (map string_bytes c.args.words.now) c.args.command _ c.in-Check.other c.word-name.result.now c.in-Check.is c.word-name.ensures HasProgram _ (λ h. h) (c.check-status.ensures.read_fault e)
 
 pub returns-in-Check-clause-file_taken : goal.returns-in-Check-clause-file_taken
 returns-in-Check-clause-file_taken g c = λ named file same tells.
-    taken_by_name (map string_bytes c.args.words.now) c.args.command _ c.in-Check.other c.word.result.now c.in-Check.is c.word.ensures program_file named _ file _ _ _ refl same (c.check-status.ensures.file_taken file) tells
+    taken_by_name (map string_bytes c.args.words.now) c.args.command _ c.in-Check.other c.word-name.result.now c.in-Check.is c.word-name.ensures program_file named _ file _ _ _ refl same (c.check-status.ensures.file_taken file) tells
 
 pub returns-in-Check-clause-shelf_fault : goal.returns-in-Check-clause-shelf_fault
 returns-in-Check-clause-shelf_fault g c = λ _. opens_some c.args.command _ _ c.in-Check.is refl

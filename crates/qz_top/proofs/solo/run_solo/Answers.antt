@@ -1,6 +1,6 @@
 use Rattle.std.proofs.Common.{map, string_bytes, refl, sym, ap, ◌∙◌, Ok}
 use Rattle.qz_top.specs.FaultTexts.{status_text}
-use Rattle.qz_top.proofs.AnswerLemmas.{words_carried, words_refused}
+use Rattle.qz_top.proofs.AnswerLemmas.{words_carried, words_refused, words_no_shelf_fault}
 use Rattle.qz_top.proofs.AnswerTexts.{answer_tells, refusal_told, plain_done, no_report, report_told}
 use Rattle.qz_top.proofs.RunLemmas.{tells_same, same_command, words_need, words_need_or, words_ask, refused_ask, file_same, refused_opens_none, refused_asks_none}
 use Rattle.qz_top.specs.Run.{file_said}
@@ -74,3 +74,6 @@ returns-in-Err-clause-file_taken g c = λ named file asked. absurd (refused_open
 
 pub returns-in-Err-clause-file_at_end : goal.returns-in-Err-clause-file_at_end
 returns-in-Err-clause-file_at_end g c = λ some. absurd (some (refused_asks_none (map string_bytes c.args.words.now) c.in-Err.fault c.in-Err.ensures.command))
+
+pub returns-in-Err-clause-shelf_fault : goal.returns-in-Err-clause-shelf_fault
+returns-in-Err-clause-shelf_fault g c = λ e. absurd (words_no_shelf_fault c.in-Err.fault (sym c.status_of_words-status.ensures ∙ e))
