@@ -1,5 +1,5 @@
 -- Their own names leave circuits within limits as they are.
-use Rattle.std.proofs.Common.{◌≡◌, ℕ, zero, suc, ◌<◌, ◌≤◌, List, [], ◌∷◌, map, length, get_or, refl, ap, ◌∙◌, arith, sym}
+use Rattle.std.proofs.Common.{◌≡◌, ℕ, zero, suc, ◌<◌, ◌≤◌, true, List, [], ◌∷◌, map, length, get_or, refl, ap, ◌∙◌, arith, sym}
 use Rattle.std.specs.Prelude.{Contains, slice_index}
 use Rattle.std.specs.List.{AllByRecursion}
 use Rattle.std.proofs.lemmas.List.{get_or-map}
@@ -7,9 +7,9 @@ use Rattle.qz_circ.specs.declared.circuit.Expr.{Expr}
 use Rattle.qz_circ.specs.declared.circuit.Op.{Op}
 use Rattle.qz_circ.specs.declared.circuit.Op.TheVariants.{H, X, Cx, Rz}
 use Rattle.qz_circ.specs.Circuit.{Circuit, Limits, Within, gates_of, angles}
-use Rattle.qz_circ.specs.Bounds.{IsLawful}
+use Rattle.qz_circ.specs.Bounds.{IsLawful, is_grain}
 use Rattle.qz_circ.specs.Relabellings.{IsPermutation, renamed_angle, renamed_gate, renamed}
-use Rattle.qz_circ.proofs.BoundsLemmas.{in_range}
+use Rattle.qz_circ.proofs.BoundsLemmas.{in_range, for_grains}
 use Rattle.qz_circ.proofs.GateNumbers.{OfEachKind, of_gate}
 
 -- the names that 0, 1 and 2 have
@@ -33,13 +33,13 @@ own_permutation n = record {
 }
 
 -- the angles with few parameters stay
-angles_stay : (m : ℕ) → m ≤ 3 → map (renamed_angle own_names) (angles m) ≡ angles m
+angles_stay : (m grain : ℕ) → m ≤ 3 → is_grain grain ≡ true → map (renamed_angle own_names) (angles m grain) ≡ angles m grain
 unfolding angles
-angles_stay zero few = refl
-angles_stay (suc zero) few = refl
-angles_stay (suc (suc zero)) few = refl
-angles_stay (suc (suc (suc zero))) few = refl
-angles_stay (suc (suc (suc (suc m)))) few = absurd (omega arith)
+angles_stay zero grain few g = for_grains (λ h. map (renamed_angle own_names) (angles 0 h) ≡ angles 0 h) grain g refl refl refl
+angles_stay (suc zero) grain few g = for_grains (λ h. map (renamed_angle own_names) (angles 1 h) ≡ angles 1 h) grain g refl refl refl
+angles_stay (suc (suc zero)) grain few g = for_grains (λ h. map (renamed_angle own_names) (angles 2 h) ≡ angles 2 h) grain g refl refl refl
+angles_stay (suc (suc (suc zero))) grain few g = for_grains (λ h. map (renamed_angle own_names) (angles 3 h) ≡ angles 3 h) grain g refl refl refl
+angles_stay (suc (suc (suc (suc m)))) grain few g = absurd (omega arith)
 
 -- what leaves a list leaves its elements
 stays : {A : Type 0} (f : A → A) (xs : List A) (x : A) → map f xs ≡ xs → Contains xs x → f x ≡ x
@@ -61,7 +61,7 @@ module _ (b : Limits) (lawful : IsLawful b) where
         of_h = λ t less. ap H (own t (omega (arith, range.qubits)));
         of_x = λ t less. ap X (own t (omega (arith, range.qubits)));
         of_cx = λ c t few less apart. (λ i. Cx (own c (omega (arith, range.qubits)) i) (own t (omega (arith, range.qubits)) i));
-        of_rz = λ t e less listed. (λ i. Rz (own t (omega (arith, range.qubits)) i) (stays (renamed_angle own_names) (angles b.m) e (angles_stay b.m range.params) listed i));
+        of_rz = λ t e less listed. (λ i. Rz (own t (omega (arith, range.qubits)) i) (stays (renamed_angle own_names) (angles b.m b.grain) e (angles_stay b.m b.grain range.params range.grain) listed i));
       }) g has
 
   -- and circuits

@@ -78,7 +78,7 @@ seen_step seen new xs c e h =
   where
     there : (k : ProgramCircuit) → Has (c ∷ different (program_cmp ones) xs) k → Has (xs ++ c ∷ []) k
     there k (inl f) = has_right xs (c ∷ []) k (inl f)
-    there k (inr g) = has_left xs (c ∷ []) k (has_different (program_cmp ones) _total program_cmp_exact k xs g)
+    there k (inr g) = has_left xs (c ∷ []) k (has_different (program_cmp_total ones) (program_cmp_exact ones) k xs g)
 
     back : (k : ProgramCircuit) → Has (xs ++ c ∷ []) k → Has (c ∷ different (program_cmp ones) xs) k
     back k g =

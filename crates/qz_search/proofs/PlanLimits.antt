@@ -26,7 +26,7 @@ weights_all [] h = refl
 weights_all (w ∷ ws) h = (λ i. weight_one w h.0 i || list_any is_no_weight ws) ∙ weights_all ws h.1
 
 module _ (p : PlanNumbers) where
-  weighed : plan_refusal p ≡ None → list_any is_no_weight p.weights ≡ false
+  pub weighed : plan_refusal p ≡ None → list_any is_no_weight p.weights ≡ false
   unfolding plan_refusal
   weighed h = grind (arith, nat_tests)
 

@@ -80,13 +80,13 @@ module _ (children : ProgramCircuit → List ProgramCircuit) (plan : PlanNumbers
   next_has : (s : SearchState) (k : ProgramCircuit) → Has (queue_next children plan s) k → Has (choice children plan s) k
   unfolding first_cap
   next_has s k h =
-      has_different (program_cmp plan.weights) _total (program_cmp_exact plan.weights) k (choice children plan s) (has_take plan.cap (different (program_cmp plan.weights) plan.weights (choice children plan s)) k h)
+      has_different (program_cmp_total plan.weights) (program_cmp_exact plan.weights) k (choice children plan s) (has_take plan.cap (different (program_cmp plan.weights) (choice children plan s)) k h)
 
   -- where nothing is dropped, all that is chosen from waits
-  has_next : (s : SearchState) (k : ProgramCircuit) → length (different (program_cmp plan.weights) plan.weights (choice children plan s)) ≤ plan.cap → Has (choice children plan s) k → Has (queue_next children plan s) k
+  has_next : (s : SearchState) (k : ProgramCircuit) → length (different (program_cmp plan.weights) (choice children plan s)) ≤ plan.cap → Has (choice children plan s) k → Has (queue_next children plan s) k
   unfolding first_cap
   has_next s k few h =
-      subst (λ cs. Has cs k) (sym (take_all plan.cap (different (program_cmp plan.weights) plan.weights (choice children plan s)) few)) (different_has (program_cmp_total plan.weights) (program_cmp_exact plan.weights) k (choice children plan s) h)
+      subst (λ cs. Has cs k) (sym (take_all plan.cap (different (program_cmp plan.weights) (choice children plan s)) few)) (different_has (program_cmp_total plan.weights) (program_cmp_exact plan.weights) k (choice children plan s) h)
 
   -- ---- the best circuit
 
@@ -158,12 +158,12 @@ module _ (children : ProgramCircuit → List ProgramCircuit) (plan : PlanNumbers
       by false e = inr (grind (arith, nat_tests))
 
   module _ (c : ProgramCircuit) (k : ℕ) where
-    keeps_known : (s : SearchState) → length (different (program_cmp plan.weights) plan.weights (choice children plan s)) ≤ plan.cap → (z : ProgramCircuit) → Known s z → Known (round children plan s) z
+    keeps_known : (s : SearchState) → length (different (program_cmp plan.weights) (choice children plan s)) ≤ plan.cap → (z : ProgramCircuit) → Known s z → Known (round children plan s) z
     keeps_known s few z (inl h) = inl (has_left s.seen (take plan.batch s.queue) z h)
     keeps_known s few z (inr h) =
         elim (has_split plan.batch s.queue z h) [ inl g ↦ inl (has_right s.seen (take plan.batch s.queue) z g) | inr g ↦ inr (has_next s z few (choosing_rest s z g)) ]
 
-    round_closed : (s : SearchState) → length (different (program_cmp plan.weights) plan.weights (choice children plan s)) ≤ plan.cap → k ≤ cost plan.weights s.best + plan.slack → IsClosed c k s → IsClosed c k (round children plan s)
+    round_closed : (s : SearchState) → length (different (program_cmp plan.weights) (choice children plan s)) ≤ plan.cap → k ≤ cost plan.weights s.best + plan.slack → IsClosed c k s → IsClosed c k (round children plan s)
     round_closed s few near h =
         record {
           first = keeps_known s few c h.first;
@@ -231,7 +231,7 @@ module _ (children : ProgramCircuit → List ProgramCircuit) (plan : PlanNumbers
   none_waits : (seen : List ProgramCircuit) (b : ProgramCircuit) → queue_next children plan (record { seen = seen; queue = []; best = b }) ≡ []
   unfolding choice offered first_cap different
   none_waits seen b =
-      (λ i. take plan.cap (different (program_cmp plan.weights) plan.weights (drop_none plan.batch i ++ filter (is_offered plan (seen ++ take plan.batch []) b) (flat_map children (take_none plan.batch i))))) ∙ take_none plan.cap
+      (λ i. take plan.cap (different (program_cmp plan.weights) (drop_none plan.batch i ++ filter (is_offered plan (seen ++ take plan.batch []) b) (flat_map children (take_none plan.batch i))))) ∙ take_none plan.cap
 
   round_empty : (s : SearchState) → s.queue ≡ [] → round children plan s ≡ s
   round_empty s e = by s.queue (sym e)

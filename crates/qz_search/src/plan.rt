@@ -1,5 +1,5 @@
 //! The plan of a search.
-ghost use Rattle.std.specs.Prelude.{◌≡◌, ◌↔◌, ◌∷◌, [], IsOk, IfOk, Some};
+ghost use Rattle.std.specs.Prelude.{◌≡◌, ◌↔◌, false, IsOk, IfOk, Some};
 ghost use Rattle.std.specs.List.{list_any};
 ghost use Rattle.qz_circ.specs.ProgramCircuits.{ones};
 ghost use Rattle.qz_circ.specs.Search.{IsPlan};

@@ -11,4 +11,4 @@ returns-clause-between c =
     let given = c.in_ok-queue.ensures ∙ (λ i. record { cap = c.cap.ensures.value i; weights = c.weights.ensures.value i; list = [] }) in
     let offered = c.offer.ensures.list ∙ (λ i. record { cap = (given i).cap; weights = (given i).weights; list = firsts (given i).weights (given i).cap (c.in_ok-copy_of.ensures i ∷ (given i).list) }) in
     let of = by_table classes circuit c.in_ok-rules.rules plan c.in_ok-rules.ensures.alike c.in_ok-rules.ensures.sound c.cap.ensures.lawful c.requires.gates c.requires.few in
-    begun classes circuit _ of c.rounds.ensures.value c.new-2.ensures offered c.in_ok-best.ensures
+    begun classes circuit _ of c.rounds.ensures.value c.new.ensures offered c.in_ok-best.ensures
