@@ -80,7 +80,7 @@ fn the_cheaper_one_is_first(alloc: Global) -> Option<bool> {
         && offer(alloc, &mut queue, &[Inst::H(0), Inst::H(0)])?;
     let weights = queue.weights() == [1, 5, 1, 1];
     let short = match queue.best_within(1) {
-        Some(first) => first == [Inst::X(0)],
+        Some(first) => first == [Inst::X(0)].as_slice(),
         None => false,
     };
     Some(both && weights && short && is_best(&queue, &[Inst::H(0), Inst::H(0)]))
