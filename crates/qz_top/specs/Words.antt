@@ -68,7 +68,7 @@ takes_value _ = true
 
 -- no option is given
 abbrev pub no_options : Options
-no_options = record { workers = None; seed = None; report = false; grain = None; rules = None; rounds = None; batch = None; cap = None; slack = None; workers = None; seed = None; report = false; rules = None; rounds = None; batch = None; cap = None; slack = None; cost = None }
+no_options = record { workers = None; seed = None; report = false; grain = None; rules = None; rounds = None; batch = None; cap = None; slack = None; cost = None }
 
 -- the word that names a rule file is one of the first n
 abbrev pub IsFileWithin : ℕ → Options → Type 0
