@@ -1,6 +1,9 @@
-//! Tests of circuits and their order, of their sums and matrices, of which programs are equivalent, and of how they are put into classes.
+//! Tests of circuits and their order, of their sums and matrices, of which programs are equivalent, of how they are put into classes, and of chains and pruned
+//! class lists.
 #![tactic(auto)]
 
+#[cfg(test)]
+mod chains;
 #[cfg(test)]
 mod circuits;
 #[cfg(test)]
