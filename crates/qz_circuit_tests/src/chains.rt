@@ -37,11 +37,23 @@ fn pairs_left(alloc: Global, b: Bounds) -> Result<u64, Memory> {
 #[test]
 fn flips_around_a_rotation_are_taken_out(rt: HostRuntime) -> Result<(), Fail> {
     let b = Bounds::new(3, 1, 0)?;
-    let (flip, turn, back) = (Op::X(0), Op::Rz(0, Expr::Const(4)), Op::Rz(0, Expr::Const(28)));
-    let chain = chain_of(rt.alloc(), b, &[flip, turn, flip], &[back])?.unwrap_or(Vec::new(rt.alloc()));
+    let (flip, turn, back) = (
+        Op::X(0),
+        Op::Rz(0, Expr::Const(4)),
+        Op::Rz(0, Expr::Const(28)),
+    );
+    let chain = chain_of(rt.alloc(), b, &[flip, turn, flip], &[back])?.unwrap_or(Vec::new(
+        rt.alloc(),
+    ));
     assert!(rt; chain.len() == 3, "three circuits");
-    assert!(rt; Some(chain[0]) == rank(&[flip, turn, flip], b), "the first circuit");
-    assert!(rt; Some(chain[1]) == rank(&[flip, flip, back], b), "the flips meet");
+    assert!(rt;
+        Some(chain[0]) == rank(&[flip, turn, flip], b),
+        "the first circuit"
+    );
+    assert!(rt;
+        Some(chain[1]) == rank(&[flip, flip, back], b),
+        "the flips meet"
+    );
     assert!(rt; Some(chain[2]) == rank(&[back], b), "the second circuit");
     Ok(())
 }
